@@ -1,0 +1,6 @@
+-- The least number with a property.
+use Rattle.std.specs.Prelude.{◌≤◌, ℕ}
+
+pub record IsLeast (P : ℕ → Type 0) (n : ℕ) : Type 0 where
+  pub holds : P n
+  pub least : (m : ℕ) → P m → n ≤ m
