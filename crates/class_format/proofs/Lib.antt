@@ -1,0 +1,10 @@
+pub mod Loop
+pub mod Check
+pub mod Fields
+pub mod Parts
+pub mod Items
+pub mod Entries
+pub mod PoolTexts
+pub mod Opened
+pub mod Attributes
+pub mod Classes

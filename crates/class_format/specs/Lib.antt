@@ -1,0 +1,7 @@
+pub mod formers
+pub mod Pool
+pub mod ClassText
+pub mod Input
+pub mod Reading
+pub mod Refusals
+pub mod Laws

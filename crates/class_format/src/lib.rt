@@ -1,0 +1,30 @@
+//! Java class files: the record of a class file and its bytes (JVMS, chapter 4).
+#![tactic(auto)]
+
+mod attribute_reader;
+mod byte_text;
+mod class_reader;
+mod fault;
+mod indices;
+mod laws;
+mod listed;
+mod pool;
+mod pool_reader;
+mod reader;
+mod record;
+mod refusal;
+
+pub use byte_text::ByteText;
+pub use class_reader::read_class;
+pub use indices::Indices;
+pub use laws::{bytes_behind, number_is_bytes, one_record, one_text, reads_texts, valid_has_text};
+pub use listed::Listed;
+pub use pool::{entry_at, names_class, names_code, names_name_and_type, names_utf8};
+pub use record::{
+    Attribute, Attributes, ClassRecord, CodeBody, Handler, Handlers, Member, Members, PoolEntries,
+    PoolEntry,
+};
+pub use refusal::FormatRefusal;
+
+#[cfg(test)]
+mod tests;
