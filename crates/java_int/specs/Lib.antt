@@ -1,0 +1,2 @@
+pub mod JavaInt
+pub mod BitLaws
