@@ -1,0 +1,13 @@
+pub mod Tiles
+pub mod Regions
+pub mod RegionWrites
+pub mod RegionOpen
+pub mod Compaction
+pub mod Chains
+pub mod ListSteps
+pub mod Linked
+pub mod Sound
+pub mod Swapped
+pub mod PoolLinks
+pub mod InUse
+pub mod Walks

@@ -1,0 +1,4 @@
+pub mod Links
+pub mod PoolValue
+pub mod Blocks
+pub mod WatchLists
