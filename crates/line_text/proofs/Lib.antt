@@ -1,0 +1,12 @@
+pub mod OutcomeLaws
+pub mod NumberLaws
+pub mod DigitLaws
+pub mod OutcomeTextLaws
+pub mod PartTextLaws
+pub mod ReadingLaws
+pub mod FollowLaws
+pub mod TakeLaws
+pub mod FaultLaws
+pub mod WordLaws
+pub mod FileLaws
+pub mod CommandLaws
