@@ -1,0 +1,7 @@
+pub mod Bounds
+pub mod Ints
+pub mod Names
+pub mod Program
+pub mod Run
+pub mod Step
+pub mod Straight

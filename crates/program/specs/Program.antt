@@ -1,0 +1,38 @@
+-- The program: what its runs need of the classes.
+use Rattle.std.specs.Prelude.{◌≡◌, ◌<◌, ◌^◌, ℕ, List, All, Contains, Some, slice_get, length}
+use Rattle.opcodes.specs.declared.instruction.Instr.{Instr}
+use Rattle.program.specs.Names.{IsName}
+use Rattle.program.specs.declared.method.Method.{Method}
+use Rattle.program.specs.declared.method.MethodId.{MethodId}
+use Rattle.program.specs.declared.method.Operand.{Operand}
+use Rattle.program.specs.declared.program.Variable.{Variable}
+
+-- the variables, the monitors by class name, the entry method of each thread, and the reached methods
+pub record Prog : Type 0 where
+  pub variables : List Variable
+  pub monitors : List (List ℕ)
+  pub threads : List MethodId
+  pub methods : List Method
+
+-- a reached method of the program
+pub record IsMethod (p : Prog) (id : MethodId) (m : Method) : Type 0 where
+  pub reached : Contains p.methods m
+  pub named : m.id ≡ id
+
+-- the reached instruction at this place of a method, and what it names
+pub record IsInstruction (m : Method) (pc : ℕ) (instr : Instr) (operand : Operand) : Type 0 where
+  pub place : ℕ
+  pub listed : slice_get m.listing place ≡ Some (record { pc = pc; instr = instr })
+  pub names : slice_get m.operands place ≡ Some operand
+
+-- the names of a variable can be written
+pub record IsSpeltVariable (v : Variable) : Type 0 where
+  pub class : IsName v.class
+  pub name : IsName v.name
+
+-- what the type of a program keeps: the names of variables can be written, each instruction has its operand, and there are
+-- few threads
+pub record IsProgram (p : Prog) : Type 0 where
+  pub spelt : All IsSpeltVariable p.variables
+  pub operands : All (λ m. length m.operands ≡ length m.listing) p.methods
+  pub threads : length p.threads < 2 ^ 32
