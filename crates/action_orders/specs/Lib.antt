@@ -1,0 +1,12 @@
+pub mod Actions
+pub mod Causality
+pub mod Execution
+pub mod HappensBefore
+pub mod Laws
+pub mod Orders
+pub mod Runs
+pub mod Sequence
+pub mod Spelling
+pub mod SynchronizesWith
+pub mod Verdict
+pub mod WellFormed
