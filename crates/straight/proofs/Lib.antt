@@ -1,0 +1,13 @@
+pub mod Along
+pub mod Clauses
+pub mod Justified
+pub mod Known
+pub mod LastSeen
+pub mod Orders
+pub mod Ready
+pub mod Rising
+pub mod Running
+pub mod RunSteps
+pub mod UnderWay
+pub mod WellFormed
+pub mod Whole
