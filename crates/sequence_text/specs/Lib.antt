@@ -1,0 +1,2 @@
+pub mod SequenceText
+pub mod Pieces

@@ -1,0 +1,97 @@
+//! The names of the default writes, in order.
+
+ghost use Rattle.std.specs.Prelude.{◌≡◌, ◌≤◌, ◌<◌, ◌↔◌, ℕ, length, slice_index_or, IsTrue, IfOk, OnOk};
+ghost use Rattle.straight_sequence.specs.Defaults.{AreDefaultsInOrder, Inserts, IsBelowDefault, default_of};
+ghost use Rattle.program.specs.Straight.{AreApart};
+
+use crate::order::is_name_below;
+use action_orders::ActionRef;
+use ports::Memory;
+use program::{Program, Variable};
+use std::alloc::Global;
+
+/// Whether the default write of one variable stands before that of another in a set; false where one of the names is an
+/// identifier.
+pub fn is_below(member: &ActionRef, other: &ActionRef) -> bool
+    ensures { IsTrue result ↔ IsBelowDefault member.now other.now }
+{
+    match (member, other) {
+        (
+            ActionRef::Default { class, name },
+            ActionRef::Default {
+                class: other_class,
+                name: other_name,
+            },
+        ) => {
+            is_name_below(class, other_class)
+                || class.same(other_class) && is_name_below(name, other_name)
+        }
+        _ => false,
+    }
+}
+
+/// The first place whose member does not stand before this one, or the number of members.
+pub fn place_among(members: &[ActionRef], member: &ActionRef) -> usize
+    ensures within { result ≤ length members.now }
+    ensures before { (k : ℕ) (d : ActionRef) → k < result → IsBelowDefault (slice_index_or members.now k d) member.now }
+    ensures there { (d : ActionRef) → result < length members.now → IsBelowDefault (slice_index_or members.now result d) member.now → ⊥ }
+{
+    for (i, other) in members.iter().enumerate() {
+        if !is_below(other, member) {
+            return i;
+        }
+    }
+    members.len()
+}
+
+/// The name of a variable's default write.
+fn default_of(variable: &Variable) -> Result<ActionRef, Memory>
+    ensures { IfOk result (λ member. member ≡ default_of variable.now) }
+{
+    let class = variable.class.duplicate()?;
+    let name = variable.name.duplicate()?;
+    Ok(ActionRef::Default { class, name })
+}
+
+/// Puts a member before the first that does not stand before it.
+fn insert(members: &mut Vec<ActionRef>, member: ActionRef) -> Result<(), Memory>
+    ensures { OnOk result (Inserts member members.old.items members.new.items) }
+{
+    let place = place_among(members.as_slice(), &member);
+    members.insert(place, member).map_err(|_| Memory)
+}
+
+/// The names of the default writes of all variables, in increasing order.
+pub fn default_writes(alloc: Global, program: &Program) -> Result<Vec<ActionRef>, Memory>
+    requires { AreApart program.now.variables }
+    ensures { IfOk result (λ members. AreDefaultsInOrder program.now members.items) }
+{
+    let mut members = Vec::new(alloc);
+    for variable in program.variables() {
+        let member = default_of(variable)?;
+        insert(&mut members, member)?;
+    }
+    Ok(members)
+}
+
+#[cfg(test)]
+mod tests {
+    use super::*;
+    use program::Name;
+    use std::test::Fail;
+
+    #[test]
+    fn in_order(rt: HostRuntime) -> Result<(), Fail> {
+        let mut members = Vec::new(rt.alloc());
+        for spelling in [b"b", b"a", b"c"] {
+            let class = Name::copied(rt.alloc(), b"M")?;
+            let name = Name::copied(rt.alloc(), spelling)?;
+            insert(&mut members, ActionRef::Default { class, name })?;
+        }
+        assert_eq!(rt; members.len(), 3);
+        assert!(rt; is_below(&members[0], &members[1]));
+        assert!(rt; is_below(&members[1], &members[2]));
+        assert!(rt; !is_below(&members[1], &ActionRef::Id(0)));
+        Ok(())
+    }
+}
