@@ -1,5 +1,5 @@
 -- The order of the names of default writes.
-use Rattle.std.proofs.Common.{◌≡◌, ◌<◌, ◌≤◌, ◌+◌, ℕ, zero, suc, List, [], ◌∷◌, ◌++◌, length, take, drop, get_or, Some, slice_get, refl, sym, ◌∙◌, ap, subst, arith, inl, inr, ◌⊎◌, Contains}
+use Rattle.std.proofs.Common.{◌≡◌, ◌<◌, ◌≤◌, ◌+◌, ℕ, zero, suc, List, [], ◌∷◌, ◌++◌, length, take, drop, get_or, Some, slice_get, refl, sym, ◌∙◌, ap, subst, arith, inl, inr, ◌⊎◌, Contains, All}
 use Rattle.std.specs.Bool.{⊤}
 use Rattle.std.specs.List.{insert}
 use Rattle.std.specs.Ordering.{nat_cmp}
@@ -8,15 +8,17 @@ use Rattle.std.proofs.lemmas.Bool.{cases_order, lt-ltb, le-ltb, eq-eqb}
 use Rattle.std.proofs.lemmas.List.{take-append-drop}
 use Rattle.std.proofs.lemmas.List.Elements.{Contains-append_left, Contains-append_right, Contains-append_cases}
 use Rattle.std.proofs.lemmas.Option.{slice_get-get_or, slice_get_within, same_Some}
-use Rattle.program.specs.Program.{Prog}
+use Rattle.program.specs.Program.{Prog, IsSpeltVariable}
 use Rattle.program.specs.Straight.{AreApart}
 use Rattle.program.specs.declared.program.Variable.{Variable}
-use Rattle.program.proofs.Lists.{contains_nil, contains_here, contains_later, contains_cases, contains_map, contains_mapped, contains_at, place_of}
+use Rattle.program.proofs.Lists.{contains_nil, contains_here, contains_later, contains_cases, contains_map, contains_mapped, contains_at, place_of, all_from, all_of}
 use Rattle.action_orders.specs.declared.action.ActionRef.{ActionRef}
 use Rattle.action_orders.specs.declared.action.ActionRef.TheVariants.{Default, Id}
 use Rattle.action_orders.specs.Actions.{Var, variables, var_of, name_of}
 use Rattle.action_orders.specs.Actions as acts
 use Rattle.action_orders.specs.Sequence.{Ascends, IsBelow, IsNameBelow}
+use Rattle.action_orders.specs.Spelling.{IsSpeltRef}
+use Rattle.straight.specs.Laws.{AreDefaults}
 use Rattle.straight_sequence.specs.Defaults.{AreDefaultsInOrder, Inserts, IsBelowDefault, IsDefaultRef, default_of}
 
 cmp_less : (x y : ℕ) → x < y → nat_cmp x y ≡ Less
@@ -166,8 +168,17 @@ first_more vs i v old new apart is h ins = subst (AreFirst vs (i + 1)) (sym ins.
     all k w less there (inr (inl before)) = inserted_old old ins.place (default_of v) (default_of w) (h.all k w before there)
     all k w less there (inr (inr after)) = absurd (omega (arith, less, after))
 
-pub first_all : (p : Prog) (i : ℕ) (members : List ActionRef) → length p.variables ≤ i → AreFirst p.variables i members → AreDefaultsInOrder p members
-first_all p i members whole h = record { increasing = h.increasing; defaults = λ r. ((λ inside. from r (h.each r inside)), (λ known. back r known)) }
+default_spelt : (p : Prog) (members : List ActionRef) → All IsSpeltVariable p.variables → AreDefaults p members → All IsSpeltRef members
+default_spelt p members spelt h = all_from IsSpeltRef members (λ r inside. go r ((h r).0 inside))
+  where
+    of : (v : Var) → (w : Variable) × Contains p.variables w × (var_of w ≡ v) → IsSpeltRef (name_of (acts.Default v))
+    of v (w, there, is) = subst (λ (x : Var). IsSpeltRef (name_of (acts.Default x))) is (let s : IsSpeltVariable w = all_of IsSpeltVariable p.variables w spelt there in (s.class, s.name))
+
+    go : (r : ActionRef) → (v : Var) × Contains (variables p) v × (name_of (acts.Default v) ≡ r) → IsSpeltRef r
+    go r (v, known, is) = subst IsSpeltRef is (of v (contains_map var_of p.variables v known))
+
+pub first_all : (p : Prog) (i : ℕ) (members : List ActionRef) → All IsSpeltVariable p.variables → length p.variables ≤ i → AreFirst p.variables i members → AreDefaultsInOrder p members
+first_all p i members spelt whole h = record { increasing = h.increasing; defaults = all; spelt = default_spelt p members spelt all }
   where
     from : (r : ActionRef) → (k : ℕ) × (v : Variable) × (k < i) × (slice_get p.variables k ≡ Some v) × (default_of v ≡ r) → (v : Var) × Contains (variables p) v × (name_of (acts.Default v) ≡ r)
     from r (k, v, less, is, same) = (var_of v, contains_mapped var_of p.variables v (contains_at p.variables k v is), same)
@@ -181,3 +192,6 @@ first_all p i members whole h = record { increasing = h.increasing; defaults = �
             at : (k : ℕ) × (slice_get p.variables k ≡ Some w) → Contains members r
             at (k, found) = subst (Contains members) (ap (λ (x : Var). name_of (acts.Default x)) is ∙ same)
                 (h.all k w (let less : k < length p.variables = slice_get_within p.variables k w found in omega (arith, less, whole)) found)
+
+    all : AreDefaults p members
+    all = λ r. ((λ inside. from r (h.each r inside)), (λ known. back r known))

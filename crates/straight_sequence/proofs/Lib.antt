@@ -1,1 +1,4 @@
+pub mod Committed
 pub mod DefaultOrder
+pub mod Joined
+pub mod Whole

@@ -1,10 +1,11 @@
 -- The order of the names of default writes.
-use Rattle.std.specs.Prelude.{◌≡◌, ◌⊎◌, ◌≤◌, ◌<◌, ℕ, List, length, slice_index_or, insert, ⊤}
+use Rattle.std.specs.Prelude.{◌≡◌, ◌⊎◌, ◌≤◌, ◌<◌, ℕ, List, length, slice_index_or, insert, ⊤, All}
 use Rattle.program.specs.Program.{Prog}
 use Rattle.program.specs.declared.program.Variable.{Variable}
 use Rattle.action_orders.specs.declared.action.ActionRef.{ActionRef}
 use Rattle.action_orders.specs.declared.action.ActionRef.TheVariants.{Default, Id}
 use Rattle.action_orders.specs.Sequence.{Ascends, IsNameBelow}
+use Rattle.action_orders.specs.Spelling.{IsSpeltRef}
 use Rattle.straight.specs.Laws.{AreDefaults}
 
 -- both are default writes, and the first stands before the second
@@ -33,3 +34,4 @@ pub record Inserts (member : ActionRef) (old new : List ActionRef) : Type 0 wher
 pub record AreDefaultsInOrder (p : Prog) (members : List ActionRef) : Type 0 where
   pub increasing : Ascends members
   pub defaults : AreDefaults p members
+  pub spelt : All IsSpeltRef members

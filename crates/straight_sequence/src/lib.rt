@@ -4,5 +4,7 @@
 
 mod defaults;
 mod order;
+mod steps;
 
 pub use defaults::default_writes;
+pub use steps::committing_sequence;

@@ -18,5 +18,5 @@ loop-variable-preserved c =
 
 pub returns : goal.returns
 returns c =
-    first_all c.args.program.now c.loop-variable.variable-index c.loop-variable.members.items (omega (arith, ap length c.variables-variable-items.ensures.value, c.loop-variable-test.false))
+    first_all c.args.program.now c.loop-variable.variable-index c.loop-variable.members.items c.variables-variable-items.ensures.spelt (omega (arith, ap length c.variables-variable-items.ensures.value, c.loop-variable-test.false))
     (subst (λ (vs : List Variable). AreFirst vs c.loop-variable.variable-index c.loop-variable.members.items) c.variables-variable-items.ensures.value c.loop-variable.invariant)
