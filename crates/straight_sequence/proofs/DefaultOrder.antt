@@ -19,7 +19,7 @@ use Rattle.action_orders.specs.Actions as acts
 use Rattle.action_orders.specs.Sequence.{Ascends, IsBelow, IsNameBelow}
 use Rattle.action_orders.specs.Spelling.{IsSpeltRef}
 use Rattle.straight.specs.Laws.{AreDefaults}
-use Rattle.straight_sequence.specs.Defaults.{AreDefaultsInOrder, Inserts, IsBelowDefault, IsDefaultRef, default_of}
+use Rattle.straight_sequence.specs.Defaults.{AreDefaultsInOrder, Inserts, IsDefaultRef, default_of}
 
 cmp_less : (x y : ℕ) → x < y → nat_cmp x y ≡ Less
 cmp_less x y h = rw (lt-ltb x y h) refl
@@ -41,23 +41,18 @@ names_either (x ∷ xs) (y ∷ ys) = go (cases_order x y) (names_either xs ys)
     go (inl e) (inr (inl same)) = inr (inl (rw (e, same) refl))
     go (inl e) (inr (inr above)) = inr (inr (rw (cmp_equal y x (sym e)) above))
 
-defaults_either : (a b : ActionRef) → IsDefaultRef a → IsDefaultRef b → IsBelowDefault a b ⊎ ((a ≡ b) ⊎ IsBelowDefault b a)
+defaults_either : (a b : ActionRef) → IsDefaultRef a → IsDefaultRef b → IsBelow a b ⊎ ((a ≡ b) ⊎ IsBelow b a)
 defaults_either (Id id) b is_a is_b = absurd is_a
 defaults_either (Default c n) (Id id) is_a is_b = absurd is_b
 defaults_either (Default c n) (Default c' n') is_a is_b = go (names_either c c') (names_either n n')
   where
     go : IsNameBelow c c' ⊎ ((c ≡ c') ⊎ IsNameBelow c' c) → IsNameBelow n n' ⊎ ((n ≡ n') ⊎ IsNameBelow n' n) →
-        IsBelowDefault (Default c n) (Default c' n') ⊎ ((Default c n ≡ Default c' n') ⊎ IsBelowDefault (Default c' n') (Default c n))
+        IsBelow (Default c n) (Default c' n') ⊎ ((Default c n ≡ Default c' n') ⊎ IsBelow (Default c' n') (Default c n))
     go (inl below) rest = inl (inl below)
     go (inr (inr above)) rest = inr (inr (inl above))
     go (inr (inl e)) (inl below) = inl (inr (e, below))
     go (inr (inl e)) (inr (inl same)) = inr (inl (rw (e, same) refl))
     go (inr (inl e)) (inr (inr above)) = inr (inr (inr (sym e, above)))
-
-below_default : (a b : ActionRef) → IsBelowDefault a b → IsBelow a b
-below_default (Default c n) (Default c' n') h = h
-below_default (Default c n) (Id id) h = absurd h
-below_default (Id id) b h = absurd h
 
 -- the first of these members is above
 abbrev IsHeadAbove : ActionRef → List ActionRef → Type 0
@@ -72,13 +67,13 @@ ascends_tail : (y : ActionRef) (ys : List ActionRef) → Ascends (y ∷ ys) → 
 ascends_tail y [] h = tt
 ascends_tail y (z ∷ ys) h = h.1
 
-ascends_insert : (xs : List ActionRef) (i : ℕ) (x : ActionRef) → Ascends xs → ((k : ℕ) (d : ActionRef) → k < i → IsBelowDefault (get_or xs k d) x) →
-    ((d : ActionRef) → i < length xs → IsBelowDefault x (get_or xs i d)) → i ≤ length xs → Ascends (insert xs i x)
+ascends_insert : (xs : List ActionRef) (i : ℕ) (x : ActionRef) → Ascends xs → ((k : ℕ) (d : ActionRef) → k < i → IsBelow (get_or xs k d) x) →
+    ((d : ActionRef) → i < length xs → IsBelow x (get_or xs i d)) → i ≤ length xs → Ascends (insert xs i x)
 ascends_insert [] zero x h before later within = tt
 ascends_insert [] (suc i) x h before later within = absurd (omega (arith, within))
-ascends_insert (y ∷ ys) zero x h before later within = (below_default x y (later y (omega arith)), h)
+ascends_insert (y ∷ ys) zero x h before later within = (later y (omega arith), h)
 ascends_insert (y ∷ ys) (suc i) x h before later within =
-    ascends_cons y (insert ys i x) (head ys i h (below_default y x (before 0 y (omega arith))))
+    ascends_cons y (insert ys i x) (head ys i h (before 0 y (omega arith)))
     (ascends_insert ys i x (ascends_tail y ys h) (λ k d less. before (suc k) d (omega (arith, less))) (λ d less. later d (omega (arith, less))) (omega (arith, within)))
   where
     head : (zs : List ActionRef) (j : ℕ) → Ascends (y ∷ zs) → IsBelow y x → IsHeadAbove y (insert zs j x)
@@ -145,13 +140,13 @@ first_more vs i v old new apart is h ins = subst (AreFirst vs (i + 1)) (sym ins.
         go : (k : ℕ) × (w : Variable) × (k < i) × (slice_get vs k ≡ Some w) × (default_of w ≡ r) → IsDefaultRef r
         go (k, w, less, there, same) = subst IsDefaultRef same tt
 
-    above : (d : ActionRef) → ins.place < length old → IsBelowDefault (default_of v) (get_or old ins.place d)
+    above : (d : ActionRef) → ins.place < length old → IsBelow (default_of v) (get_or old ins.place d)
     above d less = go (defaults_either (get_or old ins.place d) (default_of v) (is_default (get_or old ins.place d) inside) tt)
       where
         inside : Contains old (get_or old ins.place d)
         inside = contains_at old ins.place (get_or old ins.place d) (slice_get-get_or old ins.place d less)
 
-        go : IsBelowDefault (get_or old ins.place d) (default_of v) ⊎ ((get_or old ins.place d ≡ default_of v) ⊎ IsBelowDefault (default_of v) (get_or old ins.place d)) → IsBelowDefault (default_of v) (get_or old ins.place d)
+        go : IsBelow (get_or old ins.place d) (default_of v) ⊎ ((get_or old ins.place d ≡ default_of v) ⊎ IsBelow (default_of v) (get_or old ins.place d)) → IsBelow (default_of v) (get_or old ins.place d)
         go (inl below) = absurd (ins.there d less below)
         go (inr (inl e)) = absurd (fresh (subst (Contains old) e inside))
         go (inr (inr over)) = over

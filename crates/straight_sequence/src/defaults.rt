@@ -1,7 +1,8 @@
 //! The names of the default writes, in order.
 
 ghost use Rattle.std.specs.Prelude.{◌≡◌, ◌≤◌, ◌<◌, ◌↔◌, ℕ, length, slice_index_or, IsTrue, IfOk, OnOk};
-ghost use Rattle.straight_sequence.specs.Defaults.{AreDefaultsInOrder, Inserts, IsBelowDefault, default_of};
+ghost use Rattle.straight_sequence.specs.Defaults.{AreDefaultsInOrder, Inserts, default_of};
+ghost use Rattle.action_orders.specs.Sequence.{IsBelow};
 ghost use Rattle.program.specs.Straight.{AreApart};
 
 use crate::order::is_name_below;
@@ -10,10 +11,9 @@ use ports::Memory;
 use program::{Program, Variable};
 use std::alloc::Global;
 
-/// Whether the default write of one variable stands before that of another in a set; false where one of the names is an
-/// identifier.
+/// Whether one member stands before another in a set (docs/TEXTS.md, "Sequences").
 pub fn is_below(member: &ActionRef, other: &ActionRef) -> bool
-    ensures { IsTrue result ↔ IsBelowDefault member.now other.now }
+    ensures { IsTrue result ↔ IsBelow member.now other.now }
 {
     match (member, other) {
         (
@@ -26,15 +26,17 @@ pub fn is_below(member: &ActionRef, other: &ActionRef) -> bool
             is_name_below(class, other_class)
                 || class.same(other_class) && is_name_below(name, other_name)
         }
-        _ => false,
+        (ActionRef::Default { .. }, ActionRef::Id(_)) => true,
+        (ActionRef::Id(_), ActionRef::Default { .. }) => false,
+        (ActionRef::Id(id), ActionRef::Id(other_id)) => id < other_id,
     }
 }
 
 /// The first place whose member does not stand before this one, or the number of members.
 pub fn place_among(members: &[ActionRef], member: &ActionRef) -> usize
     ensures within { result ≤ length members.now }
-    ensures before { (k : ℕ) (d : ActionRef) → k < result → IsBelowDefault (slice_index_or members.now k d) member.now }
-    ensures there { (d : ActionRef) → result < length members.now → IsBelowDefault (slice_index_or members.now result d) member.now → ⊥ }
+    ensures before { (k : ℕ) (d : ActionRef) → k < result → IsBelow (slice_index_or members.now k d) member.now }
+    ensures there { (d : ActionRef) → result < length members.now → IsBelow (slice_index_or members.now result d) member.now → ⊥ }
 {
     for (i, other) in members.iter().enumerate() {
         if !is_below(other, member) {
@@ -91,7 +93,10 @@ mod tests {
         assert_eq!(rt; members.len(), 3);
         assert!(rt; is_below(&members[0], &members[1]));
         assert!(rt; is_below(&members[1], &members[2]));
-        assert!(rt; !is_below(&members[1], &ActionRef::Id(0)));
+        assert!(rt; is_below(&members[1], &ActionRef::Id(0)));
+        assert!(rt; !is_below(&ActionRef::Id(0), &members[1]));
+        assert!(rt; is_below(&ActionRef::Id(0), &ActionRef::Id(1)));
+        assert!(rt; !is_below(&ActionRef::Id(1), &ActionRef::Id(1)));
         Ok(())
     }
 }
