@@ -1,10 +1,12 @@
 //! The program, as its accessors show it.
 
-ghost use Rattle.std.specs.Prelude.{◌≡◌, ◌<◌, Some, length, map, slice_get, All, Contains};
-ghost use Rattle.program.specs.Program.{IsSpeltVariable, IsMethod};
+ghost use Rattle.std.specs.Prelude.{◌≡◌, ◌<◌, ◌^◌, suc, Some, length, map, slice_get, All, Contains, OnOk, OnErr};
+ghost use Rattle.program.specs.Program.{IsSpeltVariable, IsMethod, HasOperands, no_program, with_variable, with_monitor, with_thread, with_method};
 
 use crate::method::{Method, MethodId};
 use crate::name::Name;
+use ports::Memory;
+use std::alloc::Global;
 use std::marker::Model;
 
 /// A static field of type int or boolean that the program reaches.
@@ -37,6 +39,59 @@ impl Model for Program {
 }
 
 impl Program {
+    /// A program of nothing.
+    pub fn new(alloc: Global) -> Program
+        ensures { result ≡ no_program }
+    {
+        Program {
+            variables: Vec::new(alloc),
+            monitors: Vec::new(alloc),
+            threads: Vec::new(alloc),
+            ids: Vec::new(alloc),
+            methods: Vec::new(alloc),
+        }
+    }
+
+    /// Adds a variable behind the last one. Where memory is short, the program is unchanged, as with the other calls that add.
+    pub fn add_variable(&mut self, variable: Variable) -> Result<(), Memory>
+        requires { IsSpeltVariable variable }
+        ensures ok { OnOk result (self.new ≡ with_variable self.old variable) }
+        ensures err { OnErr result (self.new ≡ self.old) }
+    {
+        self.variables.push(variable).map_err(|_| Memory)
+    }
+
+    /// Adds a monitor behind the last one.
+    pub fn add_monitor(&mut self, class: Name) -> Result<(), Memory>
+        ensures ok { OnOk result (self.new ≡ with_monitor self.old class) }
+        ensures err { OnErr result (self.new ≡ self.old) }
+    {
+        self.monitors.push(class).map_err(|_| Memory)
+    }
+
+    /// Adds a thread behind the last one, by the method that it runs.
+    pub fn add_thread(&mut self, entry: MethodId) -> Result<(), Memory>
+        requires { suc (length self.old.threads) < 2 ^ 32 }
+        ensures ok { OnOk result (self.new ≡ with_thread self.old entry) }
+        ensures err { OnErr result (self.new ≡ self.old) }
+    {
+        self.threads.push(entry).map_err(|_| Memory)
+    }
+
+    /// Adds a reached method behind the last one.
+    pub fn add_method(&mut self, method: Method) -> Result<(), Memory>
+        requires { HasOperands method }
+        ensures ok { OnOk result (self.new ≡ with_method self.old method) }
+        ensures err { OnErr result (self.new ≡ self.old) }
+    {
+        self.ids.push(method.id).map_err(|_| Memory)?;
+        if self.methods.push(method).is_err() {
+            self.ids.pop();
+            return Err(Memory);
+        }
+        Ok(())
+    }
+
     /// How many threads there are, main included.
     pub fn threads(&self) -> u32
         ensures { result ≡ length self.now.threads }
