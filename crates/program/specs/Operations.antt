@@ -1,5 +1,5 @@
 -- What single instructions do with ints and locals (JVMS 6.5).
-use Rattle.std.specs.Prelude.{◌≡◌, ℕ, ℤ, pos, Bool, true, not, ◌&&◌, Option, Some, None, int_lt, int_le, ⊤}
+use Rattle.std.specs.Prelude.{ℕ, ℤ, pos, Bool, not, ◌&&◌, Option, Some, None, int_lt, int_le, ⊤}
 use Rattle.java_int.specs.JavaInt.{add_of, sub_of, mul_of, neg_of, shl_of, shr_of, ushr_of, and_of, or_of, xor_of, to_byte_of, to_char_of, to_short_of}
 use Rattle.opcodes.specs.declared.instruction.Instr.{Instr}
 use Rattle.opcodes.specs.declared.instruction.Instr.TheVariants.{Ldc, LdcW, Iload, Iload0, Iload1, Iload2, Iload3, Aload, Aload0, Aload1, Aload2, Aload3, Istore, Istore0, Istore1, Istore2, Istore3, Astore, Astore0, Astore1, Astore2, Astore3, Iadd, Isub, Imul, Ineg, Ishl, Ishr, Iushr, Iand, Ior, Ixor, I2b, I2c, I2s, Ifeq, Ifne, Iflt, Ifge, Ifgt, Ifle, IfIcmpeq, IfIcmpne, IfIcmplt, IfIcmpge, IfIcmpgt, IfIcmple, Goto}

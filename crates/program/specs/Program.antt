@@ -1,5 +1,5 @@
 -- The program: what its runs need of the classes.
-use Rattle.std.specs.Prelude.{◌≡◌, ◌<◌, ◌^◌, ◌++◌, ℕ, List, [], ◌∷◌, All, Contains, Some, slice_get, length}
+use Rattle.std.specs.Prelude.{◌≡◌, ◌≢◌, ◌<◌, ◌^◌, ◌++◌, ℕ, List, [], ◌∷◌, All, AllPairs, Contains, Some, slice_get, length}
 use Rattle.opcodes.specs.declared.instruction.Instr.{Instr}
 use Rattle.program.specs.Names.{IsName}
 use Rattle.program.specs.declared.method.Method.{Method}
@@ -34,11 +34,16 @@ pub record IsSpeltVariable (v : Variable) : Type 0 where
 abbrev pub HasOperands : Method → Type 0
 HasOperands m = length m.operands ≡ length m.listing
 
--- what the type of a program keeps: the names of variables can be written, each instruction has its operand, and there are
--- few threads
+-- the program has no method of that name yet
+abbrev pub IsNewMethod : Prog → Method → Type 0
+IsNewMethod p m = (other : Method) → Contains p.methods other → other.id ≢ m.id
+
+-- what the type of a program keeps: the names of variables can be written, each instruction has its operand, no two methods
+-- have one name, and there are few threads
 pub record IsProgram (p : Prog) : Type 0 where
   pub spelt : All IsSpeltVariable p.variables
   pub operands : All HasOperands p.methods
+  pub distinct : AllPairs (λ m n. m.id ≢ n.id) p.methods
   pub threads : length p.threads < 2 ^ 32
 
 -- ---- How programs are built

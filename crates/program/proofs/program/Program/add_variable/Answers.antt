@@ -1,4 +1,4 @@
-use Rattle.std.proofs.Common.{◌≡◌, ◌++◌, List, [], ◌∷◌, ℕ, All, Bool, true, false, if◌then◌else◌, zero, suc, arith}
+use Rattle.std.proofs.Common.{◌++◌, List, [], ◌∷◌, All, Bool, true, false, if◌then◌else◌, zero, suc, arith}
 use Rattle.std.proofs.lemmas.List.Elements.{All-append}
 use Rattle.std.specs.Result.{is_ok}
 use Rattle.program.specs.Program.{IsSpeltVariable}
@@ -15,9 +15,12 @@ spelt_if true variables v all h = All-append IsSpeltVariable variables (v ∷ []
 spelt_if false variables v all h = all
 
 pub invariant_of-self : goal.invariant_of-self
-invariant_of-self c = rw (c.push.ensures.items)
-    (record {
-      spelt = spelt_if (is_ok c.push.result) c.self.inside.variables.items c.args.variable c.self.invariant.0.spelt c.requires;
-      operands = c.self.invariant.0.operands;
-      threads = c.self.invariant.0.threads;
-    }, c.self.invariant.1)
+invariant_of-self c = rw (c.push.ensures.items) (
+  record {
+    spelt = spelt_if (is_ok c.push.result) c.self.inside.variables.items c.args.variable c.self.invariant.0.spelt c.requires;
+    operands = c.self.invariant.0.operands;
+    distinct = c.self.invariant.0.distinct;
+    threads = c.self.invariant.0.threads;
+  },
+  c.self.invariant.1,
+)
