@@ -1,0 +1,4 @@
+pub mod Names
+pub mod Symbols
+pub mod Linking
+pub mod StraightClass
