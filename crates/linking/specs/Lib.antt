@@ -2,3 +2,5 @@ pub mod Names
 pub mod Symbols
 pub mod Linking
 pub mod StraightClass
+pub mod Typing
+pub mod Tables

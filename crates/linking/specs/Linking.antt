@@ -1,6 +1,6 @@
 -- The program that class files make. So far it is that of one class, whose main is its only reached method.
-use Rattle.std.specs.Prelude.{◌≡◌, ◌+◌, ℕ, Bool, true, false, List, [], ◌∷◌, None, Some, Contains, codes, count_by, nat_eq, map, slice_get, if◌then◌else◌}
-use Rattle.std.specs.List.{list_any, range_with_len}
+use Rattle.std.specs.Prelude.{◌≡◌, ◌+◌, ℕ, zero, suc, Bool, true, false, List, [], ◌∷◌, None, Some, Contains, codes, nat_eq, map, slice_get, if◌then◌else◌}
+use Rattle.std.specs.List.{list_any}
 use Rattle.class_format.specs.declared.record.Attribute.{Attribute, out-Attribute}
 use Rattle.class_format.specs.declared.record.Attribute.TheOpen.{Code}
 use Rattle.class_format.specs.declared.record.ClassRecord.{ClassRecord}
@@ -52,44 +52,49 @@ main_frame body = record { max_locals = body.max_locals; max_stack = body.max_st
 
 -- ---- Variables
 
+-- what each instruction of the list names
+abbrev pub symbols_of : ClassRecord → List Listed → List Symbol
+symbols_of r listing = map (λ item. symbol_of r item.instr) listing
+
 abbrev pub is_field : ℕ → Symbol → Bool
 is_field place (Field other) = nat_eq other place
 is_field place _ = false
 
--- whether a getstatic or putstatic among the instructions names the field with this place
-abbrev pub is_reached : ClassRecord → List Listed → ℕ → Bool
-is_reached r listing place = list_any (λ item. is_field place (symbol_of r item.instr)) listing
+-- whether a getstatic or putstatic names the field with this place, that is, whether the field is a variable
+abbrev pub is_variable : List Symbol → ℕ → Bool
+is_variable symbols place = list_any (is_field place) symbols
 
 abbrev pub variable_of : ClassRecord → Member → Variable
 variable_of r m = record { class = name_of r; name = text_of r.pool m.name; volatile = has_flag m.flags volatile_flag }
 
 -- the variables among the fields from this place on, in the order of the fields
-abbrev pub variables_from : ClassRecord → List Listed → ℕ → List Member → List Variable
-variables_from r listing place [] = []
-variables_from r listing place (m ∷ ms) =
-    if is_reached r listing place then variable_of r m ∷ variables_from r listing (place + 1) ms
-    else variables_from r listing (place + 1) ms
+abbrev pub variables_from : ClassRecord → List Symbol → ℕ → List Member → List Variable
+variables_from r symbols place [] = []
+variables_from r symbols place (m ∷ ms) =
+    if is_variable symbols place then variable_of r m ∷ variables_from r symbols (place + 1) ms
+    else variables_from r symbols (place + 1) ms
 
--- the variables are the fields that the instructions name
+-- the fields that the instructions name
 abbrev pub variables_of : ClassRecord → List Listed → List Variable
-variables_of r listing = variables_from r listing 0 r.fields
+variables_of r listing = variables_from r (symbols_of r listing) 0 r.fields
 
 -- the number of a variable: how many of the fields before it are variables
-abbrev pub number_of : ClassRecord → List Listed → ℕ → ℕ
-number_of r listing place = count_by (is_reached r listing) (range_with_len 0 place)
+abbrev pub number_of : List Symbol → ℕ → ℕ
+number_of symbols zero = 0
+number_of symbols (suc place) = number_of symbols place + (if is_variable symbols place then 1 else 0)
 
 -- ---- Operands
 
-abbrev pub operand_of : ClassRecord → List Listed → Symbol → Operand
-operand_of r listing (Int n) = operand.Constant n
-operand_of r listing (Field place) = operand.Variable (number_of r listing place)
-operand_of r listing Out = operand.Out
-operand_of r listing Print = operand.Print
-operand_of r listing Nothing = operand.Nothing
+abbrev pub operand_of : List Symbol → Symbol → Operand
+operand_of symbols (Int n) = operand.Constant n
+operand_of symbols (Field place) = operand.Variable (number_of symbols place)
+operand_of symbols Out = operand.Out
+operand_of symbols Print = operand.Print
+operand_of symbols Nothing = operand.Nothing
 
--- what each instruction of the list names
+-- what each instruction of the list names, variables by number
 abbrev pub operands_of : ClassRecord → List Listed → List Operand
-operands_of r listing = map (λ item. operand_of r listing (symbol_of r item.instr)) listing
+operands_of r listing = map (operand_of (symbols_of r listing)) (symbols_of r listing)
 
 -- ---- The program
 

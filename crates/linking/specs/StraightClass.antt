@@ -91,12 +91,16 @@ pub record IsStraightCode (r : ClassRecord) (code : List ℕ) (listing : List Li
 abbrev pub interface_flag : ℕ
 interface_flag = 0x0200
 
+-- no two fields have one name
+abbrev pub AreApart : ClassRecord → Type 0
+AreApart r = AllPairs (λ a b. text_of r.pool a.name ≢ text_of r.pool b.name) r.fields
+
 -- the names of the class and of its fields
 pub record HasPlainNames (r : ClassRecord) : Type 0 where
   pub class : IsName (name_of r)
   pub not_of_the_library : starts_with nat_eq (name_of r) (codes "java/") ≡ false
   pub fields : All (λ m. IsName (text_of r.pool m.name)) r.fields
-  pub apart : AllPairs (λ a b. text_of r.pool a.name ≢ text_of r.pool b.name) r.fields
+  pub apart : AreApart r
 
 -- no refusal of linking, and no limit
 pub record IsLinkable (r : ClassRecord) (main : Member) (body : CodeBody) (listing : List Listed) : Type 0 where

@@ -15,7 +15,7 @@ static_flag = 0x0008
 
 -- a field that the reference's name and descriptor fit
 abbrev pub is_named : List PoolEntry → Reference → Member → Bool
-is_named pool reference m = same_text (text_of pool m.name) reference.name && same_text (text_of pool m.descriptor) reference.descriptor
+is_named pool reference m = same_text reference.name (text_of pool m.name) && same_text reference.descriptor (text_of pool m.descriptor)
 
 -- a static field of type int or boolean
 abbrev pub is_int_field : List PoolEntry → Member → Bool

@@ -2,9 +2,12 @@
 #![tactic(auto)]
 
 mod class_list;
+mod field_names;
 mod linker;
+mod names;
 mod refusal;
 mod symbol;
+mod symbols;
 
 pub use class_list::ClassList;
 pub use linker::link;
