@@ -1,6 +1,6 @@
 -- Straight programs: main alone, one list of instructions without jumps, calls and volatile variables.
-use Rattle.std.specs.Prelude.{◌≡◌, ◌<◌, ◌≤◌, ◌+◌, ℕ, ℤ, false, List, [], ◌∷◌, All, Some, slice_get, length}
-use Rattle.opcodes.specs.Instructions.{length_of}
+use Rattle.std.specs.Prelude.{◌≡◌, ◌<◌, ◌≤◌, ◌+◌, ℕ, ℤ, false, List, [], ◌∷◌, All, Some, None, slice_get, length}
+use Rattle.opcodes.specs.Instructions.{FallsThrough, jump_of, length_of}
 use Rattle.opcodes.specs.declared.instruction.Instr.{Instr}
 use Rattle.opcodes.specs.declared.instruction.Instr.TheVariants.{Getstatic, Putstatic, Return}
 use Rattle.opcodes.specs.declared.listed.Listed.{Listed}
@@ -26,12 +26,18 @@ abbrev pub IsNumbered : ℕ → Operand → Type 0
 IsNumbered count (operand.Variable v) = v < count
 IsNumbered count _ = Unit {0}
 
+-- an instruction behind which the next one always comes
+pub record GoesOn (instr : Instr) : Type 0 where
+  pub falls : FallsThrough instr
+  pub no_jump : jump_of instr ≡ None
+
 -- an instruction of straight code that is not the last: it stands where the one before it ended
 pub record IsStraightStep (variables max_stack pc : ℕ) (item : Listed) (names : Operand) (before after : List StackType) : Type 0 where
   pub place : item.pc ≡ pc
   pub changes : ChangesStack item.instr names before after
   pub numbered : IsNumbered variables names
   pub room : length after ≤ max_stack
+  pub goes_on : GoesOn item.instr
 
 -- the last one is a return
 pub record IsStraightEnd (pc : ℕ) (item : Listed) (names : Operand) : Type 0 where

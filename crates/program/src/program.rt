@@ -1,10 +1,12 @@
 //! The program, as its accessors show it.
 
-ghost use Rattle.std.specs.Prelude.{◌≡◌, ◌<◌, Some, length, map, slice_get, All, Contains};
-ghost use Rattle.program.specs.Program.{IsSpeltVariable, IsMethod};
+ghost use Rattle.std.specs.Prelude.{◌≡◌, ◌≢◌, ◌<◌, ◌^◌, ◌++◌, [], ◌∷◌, is_ok, if◌then◌else◌, suc, Some, length, map, slice_get, All, AllPairs, Contains, OnOk, OnErr};
+ghost use Rattle.program.specs.Program.{IsSpeltVariable, IsMethod, HasOperands, IsNewMethod, no_program, with_variable, with_monitor, with_thread, with_method};
 
 use crate::method::{Method, MethodId};
 use crate::name::Name;
+use ports::Memory;
+use std::alloc::Global;
 use std::marker::Model;
 
 /// A static field of type int or boolean that the program reaches.
@@ -36,7 +38,73 @@ impl Model for Program {
     ghost invariant = { λ p. IsProgram (record { variables = p.variables.items; monitors = p.monitors.items; threads = p.threads.items; methods = p.methods.items }) × (p.ids.items ≡ map (λ m. m.id) p.methods.items) };
 }
 
+/// Adds a method to both lists, or to neither.
+fn push_both(
+    ids: &mut Vec<MethodId>,
+    methods: &mut Vec<Method>,
+    method: Method,
+) -> Result<(), Memory>
+    ensures ids { ids.new.items ≡ (if (is_ok result) then ids.old.items ++ method.id ∷ [] else ids.old.items) }
+    ensures methods { methods.new.items ≡ (if (is_ok result) then methods.old.items ++ method ∷ [] else methods.old.items) }
+{
+    ids.push(method.id).map_err(|_| Memory)?;
+    if methods.push(method).is_err() {
+        ids.pop();
+        return Err(Memory);
+    }
+    Ok(())
+}
+
 impl Program {
+    /// A program of nothing.
+    pub fn new(alloc: Global) -> Program
+        ensures { result ≡ no_program }
+    {
+        Program {
+            variables: Vec::new(alloc),
+            monitors: Vec::new(alloc),
+            threads: Vec::new(alloc),
+            ids: Vec::new(alloc),
+            methods: Vec::new(alloc),
+        }
+    }
+
+    /// Adds a variable behind the last one. Where memory is short, the program is unchanged, as with the other calls that add.
+    pub fn add_variable(&mut self, variable: Variable) -> Result<(), Memory>
+        requires { IsSpeltVariable variable }
+        ensures ok { OnOk result (self.new ≡ with_variable self.old variable) }
+        ensures err { OnErr result (self.new ≡ self.old) }
+    {
+        self.variables.push(variable).map_err(|_| Memory)
+    }
+
+    /// Adds a monitor behind the last one.
+    pub fn add_monitor(&mut self, class: Name) -> Result<(), Memory>
+        ensures ok { OnOk result (self.new ≡ with_monitor self.old class) }
+        ensures err { OnErr result (self.new ≡ self.old) }
+    {
+        self.monitors.push(class).map_err(|_| Memory)
+    }
+
+    /// Adds a thread behind the last one, by the method that it runs.
+    pub fn add_thread(&mut self, entry: MethodId) -> Result<(), Memory>
+        requires { suc (length self.old.threads) < 2 ^ 32 }
+        ensures ok { OnOk result (self.new ≡ with_thread self.old entry) }
+        ensures err { OnErr result (self.new ≡ self.old) }
+    {
+        self.threads.push(entry).map_err(|_| Memory)
+    }
+
+    /// Adds a reached method behind the last one.
+    pub fn add_method(&mut self, method: Method) -> Result<(), Memory>
+        requires operands { HasOperands method }
+        requires new { IsNewMethod self.old method }
+        ensures ok { OnOk result (self.new ≡ with_method self.old method) }
+        ensures err { OnErr result (self.new ≡ self.old) }
+    {
+        push_both(&mut self.ids, &mut self.methods, method)
+    }
+
     /// How many threads there are, main included.
     pub fn threads(&self) -> u32
         ensures { result ≡ length self.now.threads }
@@ -69,7 +137,8 @@ impl Program {
 
     /// The reached methods, by class and by place in the class.
     pub fn methods(&self) -> &[MethodId]
-        ensures { result.now ≡ map (λ m. m.id) self.now.methods }
+        ensures value { result.now ≡ map (λ m. m.id) self.now.methods }
+        ensures distinct { AllPairs (λ m n. m.id ≢ n.id) self.now.methods }
     {
         self.ids.as_slice()
     }
@@ -85,5 +154,54 @@ impl Program {
             }
         }
         unreachable!()
+    }
+}
+
+#[cfg(test)]
+mod tests {
+    use super::*;
+    use crate::{Frame, Operands};
+    use opcodes::Listing;
+    use std::test::Fail;
+
+    const MAIN: MethodId = MethodId {
+        class: 0,
+        method: 3,
+    };
+
+    #[test]
+    fn builds(rt: HostRuntime) -> Result<(), Fail> {
+        let mut program = Program::new(rt.alloc());
+        let class = Name::copied(rt.alloc(), b"M")?;
+        let name = Name::copied(rt.alloc(), b"x")?;
+        assert!(rt; class.can_be_written());
+        assert!(rt; name.can_be_written());
+        program.add_variable(Variable {
+            class,
+            name,
+            volatile: true,
+        })?;
+        program.add_monitor(Name::copied(rt.alloc(), b"M")?)?;
+        program.add_thread(MAIN)?;
+        program.add_method(Method {
+            id: MAIN,
+            frame: Frame {
+                max_locals: 1,
+                max_stack: 2,
+                parameters: 1,
+                result: false,
+                monitor: None,
+            },
+            listing: Listing::new(rt.alloc()),
+            operands: Operands::new(rt.alloc()),
+        })?;
+        assert_eq!(rt; program.threads(), 1);
+        assert_eq!(rt; program.entry(0), MAIN);
+        assert_eq!(rt; program.variables().len(), 1);
+        assert!(rt; program.variables()[0].volatile);
+        assert_eq!(rt; program.monitors().len(), 1);
+        assert_eq!(rt; program.methods(), [MAIN].as_slice());
+        assert_eq!(rt; program.method(MAIN).frame.max_stack, 2);
+        Ok(())
     }
 }
