@@ -5,5 +5,7 @@ pub mod Steps
 pub mod Variables
 pub mod Changes
 pub mod Typed
+pub mod Facts
+pub mod Linked
 pub mod OwnFields
 pub mod Counts

@@ -1,8 +1,9 @@
 //! The program of the classes.
 
-ghost use Rattle.std.specs.Prelude.{◌≡◌, ◌<◌, ◌^◌, ◌↔◌, ℕ, List, All, Err, IfOk, OnOk, OnErr, IsTrue, length};
+ghost use Rattle.std.specs.Prelude.{◌≡◌, ◌≢◌, ◌<◌, ◌+◌, ◌^◌, ◌↔◌, ℕ, List, All, Err, IfOk, OnOk, OnErr, IsTrue, length};
 ghost use Rattle.class_format.specs.ClassText.{IsValid};
 ghost use Rattle.opcodes.specs.Faults.{HasFault};
+ghost use Rattle.opcodes.specs.Instructions.{length_of};
 ghost use Rattle.opcodes.specs.Reached.{IsListingOf};
 ghost use Rattle.opcodes.specs.declared.listed.Listed.{Listed};
 ghost use Rattle.program.specs.Straight.{IsStraight};
@@ -18,9 +19,19 @@ use crate::symbol::symbols_of;
 use crate::symbols::Symbols;
 use crate::typing::{Limits, is_straight};
 use class_format::{ClassRecord, CodeBody};
-use opcodes::{Listing, OpcodeRefusal, decode};
+use opcodes::{Listed, Listing, OpcodeRefusal, decode};
 use program::{Frame, Method, MethodId, Operands, Program};
 use std::alloc::Global;
+
+/// The refusal for a code that is refused.
+fn refusal_of(refusal: &OpcodeRefusal) -> ProgramRefusal
+    ensures { result ≡ ProgramRefusal.NotBuilt → refusal.now ≢ OpcodeRefusal.Memory }
+{
+    match refusal {
+        OpcodeRefusal::Memory => ProgramRefusal::Memory,
+        _ => ProgramRefusal::NotBuilt,
+    }
+}
 
 /// The instructions that a code reaches, where none is at fault.
 fn reached_list(alloc: Global, code: &[u8]) -> Result<Listing, ProgramRefusal>
@@ -32,19 +43,26 @@ fn reached_list(alloc: Global, code: &[u8]) -> Result<Listing, ProgramRefusal>
 {
     match decode(alloc, code) {
         Ok(listing) => Ok(listing),
-        Err(OpcodeRefusal::Memory) => Err(ProgramRefusal::Memory),
-        Err(_) => Err(ProgramRefusal::NotBuilt),
+        Err(refusal) => Err(refusal_of(&refusal)),
     }
+}
+
+/// Whether an instruction ends at this place.
+fn ends_at(item: Listed, end: u64) -> bool
+    ensures { IsTrue result ↔ (item.pc + length_of item.instr ≡ end) }
+{
+    u64::from(item.pc) + u64::from(item.instr.length()) == end
 }
 
 /// Whether the last instruction ends where the code ends.
 fn is_to_the_end(code: &[u8], listing: &Listing) -> bool
     ensures { IsTrue result ↔ IsToTheEnd code.now listing.now }
 {
-    match listing.as_slice().last() {
-        Some(item) => u64::from(item.pc) + u64::from(item.instr.length()) == code.len() as u64,
-        None => true,
+    let items = listing.as_slice();
+    if items.is_empty() {
+        return true;
     }
+    ends_at(items[items.len() - 1], code.len() as u64)
 }
 
 /// The instructions of a code that has no fault and whose last reached instruction is its end.
