@@ -1,5 +1,5 @@
 -- What each instruction of straight code leaves on the stack, and that it leaves nothing else.
-use Rattle.std.proofs.Common.{◌≡◌, ◌≤◌, ◌<◌, ℕ, ℤ, Bool, true, false, List, [], ◌∷◌, length, arith, refl, sym, ap, ◌∙◌, subst}
+use Rattle.std.proofs.Common.{◌≡◌, ◌≤◌, ◌<◌, ℕ, ℤ, Bool, true, false, List, ◌∷◌, length, arith, refl, sym, ap, ◌∙◌, subst}
 use Rattle.opcodes.specs.declared.instruction.Instr.{Instr}
 use Rattle.opcodes.specs.declared.instruction.Instr.TheVariants.{Getstatic, Putstatic}
 use Rattle.opcodes.specs.declared.listed.Listed.{Listed}
@@ -21,7 +21,7 @@ only_constant instr n before other (print e a) = cc
 pub changes_constant : (instr : Instr) (n : ℤ) (before after : List StackType) → IsInt n → after ≡ Int ∷ before → ChangesStackTo instr (operand.Constant n) before after
 changes_constant instr n before after int is = record {
   changes = constant n refl int is;
-  only = λ other h. only_constant instr n before other h ∙ sym is
+  only = λ other h. only_constant instr n before other h ∙ sym is;
 }
 
 only_read : (index v : ℕ) (before other : List StackType) → ChangesStack (Getstatic index) (operand.Variable v) before other → other ≡ Int ∷ before
@@ -34,7 +34,7 @@ only_read index v before other (print e a) = cc
 pub changes_read : (instr : Instr) (index v : ℕ) (before after : List StackType) → instr ≡ Getstatic index → after ≡ Int ∷ before → ChangesStackTo instr (operand.Variable v) before after
 changes_read instr index v before after at is = record {
   changes = read index v at refl is;
-  only = λ other h. only_read index v before other (subst (λ (i : Instr). ChangesStack i (operand.Variable v) before other) at h) ∙ sym is
+  only = λ other h. only_read index v before other (subst (λ (i : Instr). ChangesStack i (operand.Variable v) before other) at h) ∙ sym is;
 }
 
 only_out : (index : ℕ) (before other : List StackType) → ChangesStack (Getstatic index) operand.Out before other → other ≡ Out ∷ before
@@ -47,7 +47,7 @@ only_out index before other (print e a) = cc
 pub changes_out : (instr : Instr) (index : ℕ) (before after : List StackType) → instr ≡ Getstatic index → after ≡ Out ∷ before → ChangesStackTo instr operand.Out before after
 changes_out instr index before after at is = record {
   changes = out index at refl is;
-  only = λ other h. only_out index before other (subst (λ (i : Instr). ChangesStack i operand.Out before other) at h) ∙ sym is
+  only = λ other h. only_out index before other (subst (λ (i : Instr). ChangesStack i operand.Out before other) at h) ∙ sym is;
 }
 
 written : (index v : ℕ) (before other : List StackType) → ChangesStack (Putstatic index) (operand.Variable v) before other → before ≡ Int ∷ other
@@ -60,7 +60,7 @@ written index v before other (print e a) = cc
 pub tells_write : (b : Bool) (instr : Instr) (index v : ℕ) (before after : List StackType) → instr ≡ Putstatic index → TellsTop before Int after b → TellsChange instr (operand.Variable v) before after b
 tells_write true instr index v before after at is = record {
   changes = write index v at refl is;
-  only = λ other h. let e = written index v before other (subst (λ (i : Instr). ChangesStack i (operand.Variable v) before other) at h) in cc
+  only = λ other h. let e = written index v before other (subst (λ (i : Instr). ChangesStack i (operand.Variable v) before other) at h) in cc;
 }
 tells_write false instr index v before after at other_top = λ other h. other_top other (written index v before other (subst (λ (i : Instr). ChangesStack i (operand.Variable v) before other) at h))
 
@@ -70,7 +70,7 @@ module _ (variables max_stack pc : ℕ) (item : Listed) (names : Operand) (befor
       StepsTo variables max_stack pc item names before after
   steps_to place goes numbered room told = record {
     step = record { place = place; changes = told.changes; numbered = numbered; room = room; goes_on = goes };
-    only = λ other step. told.only other step.changes
+    only = λ other step. told.only other step.changes;
   }
 
   pub no_room : max_stack < length after → ChangesStackTo item.instr names before after → (other : List StackType) → IsStraightStep variables max_stack pc item names before other → ⊥

@@ -1,5 +1,5 @@
 -- The number of a field among the variables, counted by marks.
-use Rattle.std.proofs.Common.{◌≡◌, ◌<◌, ◌≤◌, ◌+◌, ℕ, zero, suc, Bool, true, false, cond, List, length, take, get_or, count_by, arith, refl, sym, ap, ◌∙◌, add-one}
+use Rattle.std.proofs.Common.{◌≡◌, ◌<◌, ◌≤◌, ◌+◌, ℕ, zero, suc, Bool, true, false, cond, List, length, take, get_or, count_by, arith, refl, ap, ◌∙◌}
 use Rattle.std.proofs.lemmas.List.Sums.{count_by_more_yes, count_by_more_no}
 use Rattle.linking.specs.Linking.{is_variable, number_of}
 use Rattle.linking.specs.Tables.{MarksVariables}

@@ -1,8 +1,8 @@
 -- What is known of a straight class, whichever way it is told.
-use Rattle.std.proofs.Common.{◌≡◌, ◌≢◌, ◌<◌, ◌≤◌, ◌^◌, ◌+◌, ◌-◌, ◌↔◌, IsTrue, IsErrAnd, Result, Err, get_or, ℕ, zero, suc, Bool, true, false, List, [], ◌∷◌, Some, Contains, length, slice_get, arith, refl, sym, ap, ◌∙◌, subst}
+use Rattle.std.proofs.Common.{◌≡◌, ◌≢◌, ◌<◌, ◌+◌, ◌-◌, ◌↔◌, IsTrue, IsErrAnd, Result, Err, get_or, ℕ, zero, suc, Bool, List, [], ◌∷◌, Some, Contains, length, slice_get, arith, refl, sym, ap, ◌∙◌, subst}
 use Rattle.class_format.specs.ClassText.{IsValid, IsMethod, IsOfMethod, IsOfMethodOpen, IsCode}
 use Rattle.class_format.specs.declared.record.Attribute.{Attribute, out-Attribute}
-use Rattle.class_format.specs.declared.record.Attribute.TheOpen.{Attribute-F, Code, Other}
+use Rattle.class_format.specs.declared.record.Attribute.TheOpen.{Attribute-F, Code}
 use Rattle.class_format.specs.declared.record.ClassRecord.{ClassRecord}
 use Rattle.class_format.specs.declared.record.CodeBody.{CodeBody}
 use Rattle.class_format.specs.declared.record.Member.{Member}
@@ -20,7 +20,7 @@ use Rattle.opcodes.specs.declared.refusal.OpcodeRefusal.{OpcodeRefusal}
 use Rattle.opcodes.specs.declared.refusal.OpcodeRefusal.TheVariants as opcode
 use Rattle.linking.specs.declared.refusal.ProgramRefusal.{ProgramRefusal}
 use Rattle.linking.specs.declared.refusal.ProgramRefusal.TheVariants.{NotBuilt}
-use Rattle.linking.specs.Linking.{IsMain, HasMain}
+use Rattle.linking.specs.Linking.{HasMain}
 use Rattle.linking.specs.StraightClass.{IsOnlyMain, IsStraightCode, IsLinkable, IsStraightClass, IsToTheEnd}
 use Rattle.linking.specs.Tables.{HasStraightShape, IsStraightListing, IsCodeAlone}
 
@@ -71,7 +71,7 @@ shape_of r straight = record {
   unsynchronized = straight.linkable.unsynchronized;
   no_interface = straight.linkable.no_interface;
   locals = straight.linkable.locals;
-  few_slots = straight.linkable.few_slots
+  few_slots = straight.linkable.few_slots;
 }
 
 pub code_alone_of : (r : ClassRecord) (m : Member) (b : CodeBody) → IsOnlyMain r m b → IsCodeAlone m.attributes b
@@ -90,9 +90,9 @@ has_main r m b shape = record {
     unsynchronized = shape.unsynchronized;
     attribute = shape.method.attribute;
     among = subst (λ (attributes : List Attribute). Contains attributes shape.method.attribute) (sym shape.method.attributes) (contains_here shape.method.attribute []);
-    code = shape.method.code
+    code = shape.method.code;
   };
-  only = λ k n d stands main. first k n (sym (ap (λ (ms : List Member). slice_get ms k) shape.method.method) ∙ stands)
+  only = λ k n d stands main. first k n (sym (ap (λ (ms : List Member). slice_get ms k) shape.method.method) ∙ stands);
 }
   where
     first : (k : ℕ) (n : Member) → slice_get (m ∷ []) k ≡ Some n → k ≡ 0
@@ -139,6 +139,7 @@ fault_of code opcode.Memory why other faultless = other refl
 
 pub end_told : (code : List ℕ) (listing : List Listed) (b : Bool) (d : Listed) → 0 < length listing →
     IsTrue b ↔ ((get_or listing (length listing - 1) d).pc + length_of (get_or listing (length listing - 1) d).instr ≡ length code) → IsTrue b ↔ IsToTheEnd code listing
-end_told code listing b d some told =
-    (λ t item at. subst (λ (x : Listed). x.pc + length_of x.instr ≡ length code) (get_or_from_slice_get listing (length listing - 1) item d at) (told.0 t),
-     λ h. told.1 (h (get_or listing (length listing - 1) d) (slice_get-get_or listing (length listing - 1) d (omega arith))))
+end_told code listing b d some told = (
+  λ t item at. subst (λ (x : Listed). x.pc + length_of x.instr ≡ length code) (get_or_from_slice_get listing (length listing - 1) item d at) (told.0 t),
+  λ h. told.1 (h (get_or listing (length listing - 1) d) (slice_get-get_or listing (length listing - 1) d (omega arith))),
+)

@@ -1,5 +1,5 @@
 -- The fields of a class by their names.
-use Rattle.std.proofs.Common.{◌≡◌, ◌≢◌, ◌<◌, ◌≤◌, ◌+◌, ℕ, zero, suc, Bool, true, false, cond, ◌&&◌, List, [], ◌∷◌, ◌++◌, length, map, get_or, take, All, Any, AllPairs, position, None, arith, refl, sym, ap, ◌∙◌, subst}
+use Rattle.std.proofs.Common.{◌≡◌, ◌≢◌, ◌<◌, ◌≤◌, ℕ, Bool, true, false, List, [], ◌∷◌, ◌++◌, length, map, get_or, take, All, Any, AllPairs, position, None, arith, refl, sym, ap, ◌∙◌}
 use Rattle.std.specs.List.{list_any}
 use Rattle.std.proofs.lemmas.Bool.{false≢true}
 use Rattle.std.proofs.lemmas.List.{get_or-take, length-take, get_or_default}
@@ -9,7 +9,9 @@ use Rattle.class_format.specs.declared.record.Member.{Member}
 use Rattle.class_format.specs.declared.record.PoolEntry.{PoolEntry}
 use Rattle.linking.specs.Names.{same_text, text_of}
 use Rattle.linking.proofs.Texts.{same_is, same_of}
-use Rattle.linking.proofs.Positions.{any_map}
+use Rattle.std.proofs.lemmas.List.Elements.{All-map}
+use Rattle.program.specs.Names.{IsName}
+use Rattle.linking.proofs.Positions.{any_map, position_none}
 
 -- what a class's fields are called, and that no two have one name
 abbrev pub name_in : List PoolEntry → Member → List ℕ
@@ -43,3 +45,18 @@ module _ (pool : List PoolEntry) where
     where
       go : Any (λ x. same_text (name_in pool m) (name_in pool x) ≡ true) (take i ms) → ⊥
       go (k, x, inside, is_x, same) = earlier ms i k m x within inside is_x is_m same apart
+
+-- a name that is longer than all others is none of them
+pub too_long : (name : List ℕ) (names : List (List ℕ)) → 200 < length name → All (λ known. length known ≤ 200) names → position (λ known. same_text name known) names ≡ None
+too_long name names long short = position_none (λ known. same_text name known) names (λ k d within. differ (get_or names k d) (short k d within))
+  where
+    differ : (known : List ℕ) → length known ≤ 200 → same_text name known ≡ false
+    differ known within = go (same_text name known) refl
+      where
+        go : (b : Bool) → same_text name known ≡ b → same_text name known ≡ false
+        go true e = let same = ap length (same_is name known e) in absurd (omega arith)
+        go false e = e
+
+-- the names of fields whose names can be written are short
+pub short_names : (pool : List PoolEntry) (ms : List Member) → All (λ m. IsName (name_in pool m)) ms → All (λ known. length known ≤ 200) (map (name_in pool) ms)
+short_names pool ms spelt = All-map (λ known. length known ≤ 200) (name_in pool) ms (λ k d within. (spelt k d within).short)

@@ -1,5 +1,5 @@
 -- The program of a straight class.
-use Rattle.std.proofs.Common.{◌≡◌, ◌≢◌, ◌<◌, ◌≤◌, ◌+◌, ◌-◌, ℕ, zero, suc, Bool, true, false, cond, List, [], ◌∷◌, Some, All, AllPairs, Contains, length, map, get_or, slice_get, arith, refl, sym, ap, ◌∙◌, subst, inl, inr}
+use Rattle.std.proofs.Common.{◌≡◌, ◌≢◌, ◌≤◌, ◌+◌, ℕ, zero, suc, Bool, true, false, cond, List, [], ◌∷◌, All, Contains, length, map, arith, refl, sym, ap, ◌∙◌, subst, inl, inr}
 use Rattle.std.proofs.lemmas.List.Elements.{All-nil, All-cons, All-head, All-tail}
 use Rattle.std.proofs.lemmas.Option.{same_Some, none-some}
 use Rattle.class_format.specs.declared.record.ClassRecord.{ClassRecord}
@@ -9,15 +9,14 @@ use Rattle.opcodes.specs.Instructions.{length_of}
 use Rattle.opcodes.specs.declared.instruction.Instr.{Instr}
 use Rattle.opcodes.specs.declared.listed.Listed.{Listed}
 use Rattle.program.proofs.Lists.{contains_nil, contains_here, contains_later, contains_cases, contains_at}
-use Rattle.program.specs.Program.{Prog}
-use Rattle.program.specs.Straight.{ChangesStack, constant, read, write, out, print, IsStraightFrom, IsStraight, AreApart}
+use Rattle.program.specs.Straight.{ChangesStack, constant, read, write, out, print, IsStraightFrom, AreApart}
 use Rattle.program.specs.declared.method.Operand.{Operand}
 use Rattle.program.specs.declared.method.Operand.TheVariants as operand
 use Rattle.program.specs.declared.program.Variable.{Variable}
 use Rattle.program.specs.declared.stack_type.StackType.{StackType}
 use Rattle.linking.specs.Symbols.{symbol_of}
-use Rattle.linking.specs.Linking.{symbols_of, is_variable, variable_of, variables_from, variables_of, operand_of, operands_of, IsProgramOf}
-use Rattle.linking.specs.StraightClass.{IsPlainField, IsListFrom, HasPlainNames, IsStraightClass}
+use Rattle.linking.specs.Linking.{symbols_of, is_variable, variable_of, variables_from, variables_of, operand_of, operands_of}
+use Rattle.linking.specs.StraightClass.{IsPlainField, IsListFrom, HasPlainNames}
 use Rattle.linking.specs.Tables.{HasStraightShape, IsStraightListing, main_method, main_program, LinksStraight}
 use Rattle.linking.specs.declared.symbol.Symbol.{Symbol}
 use Rattle.linking.specs.declared.symbol.Symbol.TheVariants.{Nothing}
@@ -51,7 +50,7 @@ module _ (r : ClassRecord) (symbols : List Symbol) where
   one_of true m ms vs v rest h = elim (contains_cases (variable_of r m) v vs h) [
     | inl e ↦ record { field = m; among = contains_here m ms; is = sym e }
     | inr t ↦ later m ms v (rest t)
-    ]
+  ]
   one_of false m ms vs v rest h = later m ms v (rest h)
 
   of_fields : (place : ℕ) (ms : List Member) (v : Variable) → Contains (variables_from r symbols place ms) v → IsOf ms v
@@ -101,9 +100,11 @@ list_from : (r : ClassRecord) (symbols : List Symbol) (variables max_stack pc : 
     IsStraightFrom variables max_stack pc stack items (map (operand_of symbols) (symbols_of r items)) → IsListFrom r pc items
 list_from r symbols variables max_stack pc stack [] h = h
 list_from r symbols variables max_stack pc stack (item ∷ []) h = (h.place, h.returns)
-list_from r symbols variables max_stack pc stack (item ∷ next ∷ items) (after, step, rest) =
-    (step.place, names_something symbols (symbol_of r item.instr) item.instr stack after step.changes,
-     list_from r symbols variables max_stack (pc + length_of item.instr) after (next ∷ items) rest)
+list_from r symbols variables max_stack pc stack (item ∷ next ∷ items) (after, step, rest) = (
+  step.place,
+  names_something symbols (symbol_of r item.instr) item.instr stack after step.changes,
+  list_from r symbols variables max_stack (pc + length_of item.instr) after (next ∷ items) rest,
+)
 
 -- straight code under other names of its parts
 pub typed_as : (m n o : ℕ) (items other : List Listed) (names same : List Operand) → n ≡ o → items ≡ other → names ≡ same →
@@ -121,26 +122,52 @@ module _ (r : ClassRecord) where
       LinksStraight r (main_program (vars listing) body listing (operands_of r listing))
   links main body listing shape names apart listed typed few = record {
     class = record {
-      main = main; body = body; listing = listing;
-      class = shape.class; fields = shape.fields; method = shape.method;
+      main = main;
+      body = body;
+      listing = listing;
+      class = shape.class;
+      fields = shape.fields;
+      method = shape.method;
       code = record {
         reached = listed.reached;
         list = list_from r (symbols_of r listing) (length (vars listing)) body.max_stack 0 [] listing typed;
-        to_the_end = listed.to_the_end
+        to_the_end = listed.to_the_end;
       };
       linkable = record {
-        static = shape.static; unsynchronized = shape.unsynchronized; no_interface = shape.no_interface; names = names; apart = apart;
-        faultless = listed.faultless; typed = typed; locals = shape.locals; few_variables = few; few_slots = shape.few_slots
-      }
+        static = shape.static;
+        unsynchronized = shape.unsynchronized;
+        no_interface = shape.no_interface;
+        names = names;
+        apart = apart;
+        faultless = listed.faultless;
+        typed = typed;
+        locals = shape.locals;
+        few_variables = few;
+        few_slots = shape.few_slots;
+      };
     };
     program = record {
-      class = r; one_class = refl; place = 0; body = body; main = has_main r main body shape;
-      method = main_method body listing (operands_of r listing); id = refl; frame = refl; listing = listed.reached; operands = refl;
-      methods = refl; threads = refl; variables = refl; monitors = refl
+      class = r;
+      one_class = refl;
+      place = 0;
+      body = body;
+      main = has_main r main body shape;
+      method = main_method body listing (operands_of r listing);
+      id = refl;
+      frame = refl;
+      listing = listed.reached;
+      operands = refl;
+      methods = refl;
+      threads = refl;
+      variables = refl;
+      monitors = refl;
     };
     straight = record {
-      main = main_method body listing (operands_of r listing); thread = refl; method = refl; code = typed;
+      main = main_method body listing (operands_of r listing);
+      thread = refl;
+      method = refl;
+      code = typed;
       plain = plain_from r (symbols_of r listing) 0 r.fields shape.fields;
-      apart = apart_from r (symbols_of r listing) 0 r.fields apart
-    }
+      apart = apart_from r (symbols_of r listing) 0 r.fields apart;
+    };
   }

@@ -1,13 +1,12 @@
 -- The place of a field of the class that a reference names, where all fields are plain ints.
-use Rattle.std.proofs.Common.{◌≡◌, ◌<◌, ℕ, Bool, true, false, ◌&&◌, ◌||◌, Option, Some, None, List, [], ◌∷◌, length, map, slice_index_or, All, position, codes, refl, sym, ap, ◌∙◌}
+use Rattle.std.proofs.Common.{◌≡◌, ℕ, Bool, true, false, ◌&&◌, ◌||◌, Option, None, List, slice_index_or, All, position, codes, refl, sym, ap, ◌∙◌}
 use Rattle.class_format.specs.declared.record.ClassRecord.{ClassRecord}
 use Rattle.class_format.specs.declared.record.Member.{Member}
 use Rattle.class_format.specs.declared.record.PoolEntry.{PoolEntry}
 use Rattle.linking.specs.Names.{same_text, has_flag, text_of, Reference}
 use Rattle.linking.specs.Symbols.{static_flag, is_named, is_int_field, field_or_nothing, own_field}
 use Rattle.linking.specs.StraightClass.{IsPlainField}
-use Rattle.linking.specs.Tables.{names_of_fields, AreFieldNames}
-use Rattle.linking.specs.declared.symbol.Symbol.{Symbol}
+use Rattle.linking.specs.Tables.{names_of_fields}
 use Rattle.linking.proofs.Fields.{name_in}
 use Rattle.linking.proofs.Positions.{position-map, position_same, position_none}
 

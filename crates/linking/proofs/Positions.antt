@@ -1,5 +1,5 @@
 -- Where the first element of a list stands that passes a test.
-use Rattle.std.proofs.Common.{◌≡◌, ◌<◌, ℕ, zero, suc, Bool, true, false, cond, not, ◌||◌, nat_lt, Option, Some, None, List, [], ◌∷◌, ◌+◌, length, map, get_or, position, All, refl, sym, ap, ◌∙◌, arith, rules, tests}
+use Rattle.std.proofs.Common.{◌≡◌, ℕ, Bool, false, cond, not, ◌||◌, nat_lt, Option, Some, None, List, [], ◌∷◌, ◌+◌, length, map, position, All, refl, ap, ◌∙◌, arith, rules, tests}
 use Rattle.std.specs.List.{position_or_len, list_any}
 use Rattle.std.proofs.lemmas.List.{length-map}
 use Rattle.std.proofs.lemmas.List.Elements.{All-head, All-tail}

@@ -1,5 +1,5 @@
 -- Straight code from one place on and from the next one.
-use Rattle.std.proofs.Common.{◌≡◌, ◌≤◌, ◌<◌, ◌+◌, ◌↔◌, IsTrue, ℕ, suc, Bool, true, false, List, [], ◌∷◌, length, drop, get_or, length-drop, add-one, arith, refl, sym, ap, ap₂, ◌∙◌, subst}
+use Rattle.std.proofs.Common.{◌≡◌, ◌≤◌, ◌<◌, ◌+◌, ◌↔◌, IsTrue, ℕ, Bool, false, List, [], ◌∷◌, length, drop, get_or, length-drop, add-one, arith, sym, ap, ◌∙◌, subst}
 use Rattle.std.proofs.Math.Seq.{drop-cons}
 use Rattle.std.proofs.lemmas.List.{nil_from_length}
 use Rattle.opcodes.specs.Instructions.{length_of}
@@ -17,14 +17,14 @@ pub never : {A : Type 0} → (A → ⊥) → IsTrue false ↔ A
 never not = (λ t. absurd (false_never t), λ a. absurd (not a))
 
 module _ (variables max_stack : ℕ) where
-
   -- behind a step the rest is straight exactly where all was
   steps : (pc : ℕ) (stack after : List StackType) (item next : Listed) (items : List Listed) (o : Operand) (names : List Operand) →
       StepsTo variables max_stack pc item o stack after →
       IsStraightFrom variables max_stack pc stack (item ∷ next ∷ items) (o ∷ names) ↔ IsStraightFrom variables max_stack (pc + length_of item.instr) after (next ∷ items) names
-  steps pc stack after item next items o names told =
-      (λ (other, step, rest). subst (λ (s : List StackType). IsStraightFrom variables max_stack (pc + length_of item.instr) s (next ∷ items) names) (told.only other step) rest,
-       λ rest. (after, told.step, rest))
+  steps pc stack after item next items o names told = (
+    λ (other, step, rest). subst (λ (s : List StackType). IsStraightFrom variables max_stack (pc + length_of item.instr) s (next ∷ items) names) (told.only other step) rest,
+    λ rest. (after, told.step, rest),
+  )
 
   abbrev pub Same : List Listed → List Operand → ℕ → List StackType → ℕ → Type 0
   Same listing operands pc stack k =
@@ -63,9 +63,9 @@ module _ (variables max_stack : ℕ) where
         Same listing operands (pc + length_of (get_or listing k d).instr) after (k + 1)
     goes_on_at k pc stack after d e within told so_far =
         let two : drop k listing ≡ get_or listing k d ∷ get_or listing (k + 1) d ∷ drop (k + 1 + 1) listing =
-          cut listing k d (omega arith) ∙ ap (λ (xs : List Listed). get_or listing k d ∷ xs) (cut listing (k + 1) d within) in
+        cut listing k d (omega arith) ∙ ap (λ (xs : List Listed). get_or listing k d ∷ xs) (cut listing (k + 1) d within) in
         let step = moves pc stack after (get_or listing k d) (get_or listing (k + 1) d) (drop (k + 1 + 1) listing) (drop k listing) (drop (k + 1) listing)
-          (get_or operands k e) (drop (k + 1) operands) (drop k operands) two (cut listing (k + 1) d within) (cut operands k e (omega arith)) told in
+        (get_or operands k e) (drop (k + 1) operands) (drop k operands) two (cut listing (k + 1) d within) (cut operands k e (omega arith)) told in
         (λ h. step.0 (so_far.0 h), λ h. so_far.1 (step.1 h))
 
     pub ends_at : (b : Bool) (k pc : ℕ) (stack : List StackType) (d : Listed) (e : Operand) → k + 1 ≡ length listing →
@@ -82,7 +82,7 @@ module _ (variables max_stack : ℕ) where
         IsStraightFrom variables max_stack 0 [] listing operands → ⊥
     misfits_at k pc stack d e within unfit so_far all =
         let two : drop k listing ≡ get_or listing k d ∷ get_or listing (k + 1) d ∷ drop (k + 1 + 1) listing =
-          cut listing k d (omega arith) ∙ ap (λ (xs : List Listed). get_or listing k d ∷ xs) (cut listing (k + 1) d within) in
+        cut listing k d (omega arith) ∙ ap (λ (xs : List Listed). get_or listing k d ∷ xs) (cut listing (k + 1) d within) in
         misfits pc stack (get_or listing k d) (get_or listing (k + 1) d) (drop (k + 1 + 1) listing) (drop k listing) (get_or operands k e) (drop (k + 1) operands) (drop k operands)
         two (cut operands k e (omega arith)) unfit (so_far.0 all)
 

@@ -1,5 +1,5 @@
 -- The variables among the fields, one field after the other.
-use Rattle.std.proofs.Common.{◌≡◌, ◌<◌, ◌≤◌, ◌+◌, ℕ, suc, Bool, true, false, cond, List, [], ◌∷◌, ◌++◌, length, drop, get_or, add-one, arith, refl, sym, ap, ◌∙◌, subst, append_assoc, length-append, length-drop}
+use Rattle.std.proofs.Common.{◌≡◌, ◌<◌, ◌≤◌, ◌+◌, ℕ, Bool, true, false, cond, List, [], ◌∷◌, ◌++◌, length, drop, get_or, add-one, arith, sym, ap, ◌∙◌, append_assoc, length-append, length-drop}
 use Rattle.std.proofs.Math.Seq.{drop-cons}
 use Rattle.std.proofs.lemmas.List.{append-nil, nil_from_length}
 use Rattle.class_format.specs.declared.record.ClassRecord.{ClassRecord}

@@ -11,7 +11,6 @@ use Rattle.class_format.specs.declared.record.PoolEntry.TheVariants.{Utf8, Class
 use Rattle.opcodes.specs.Faults.{HasFault}
 use Rattle.opcodes.specs.Instructions.{length_of}
 use Rattle.opcodes.specs.Reached.{IsListingOf}
-use Rattle.opcodes.specs.declared.instruction.Instr.{Instr}
 use Rattle.opcodes.specs.declared.instruction.Instr.TheVariants.{Return}
 use Rattle.opcodes.specs.declared.listed.Listed.{Listed}
 use Rattle.program.specs.Names.{IsName}
@@ -19,7 +18,6 @@ use Rattle.program.specs.Straight.{IsStraightFrom}
 use Rattle.linking.specs.Names.{has_flag, text_of, class_name_of, name_of}
 use Rattle.linking.specs.Symbols.{static_flag, symbol_of}
 use Rattle.linking.specs.Linking.{synchronized_flag, volatile_flag, variables_of, operands_of}
-use Rattle.linking.specs.declared.symbol.Symbol.{Symbol}
 use Rattle.linking.specs.declared.symbol.Symbol.TheVariants.{Nothing}
 
 -- ---- The class

@@ -1,5 +1,5 @@
 -- What an instruction names by the constant pool of its class, and the int that a constant pushes.
-use Rattle.std.specs.Prelude.{ℕ, ℤ, pos, negsuc, Bool, true, false, List, Option, Some, None, codes, position, ◌&&◌, ◌||◌, if◌then◌else◌}
+use Rattle.std.specs.Prelude.{ℕ, pos, negsuc, Bool, true, false, List, Option, Some, None, codes, position, ◌&&◌, ◌||◌, if◌then◌else◌}
 use Rattle.opcodes.specs.declared.instruction.Instr.{Instr}
 use Rattle.opcodes.specs.declared.instruction.Instr.TheVariants.{IconstM1, Iconst0, Iconst1, Iconst2, Iconst3, Iconst4, Iconst5, Bipush, Sipush, Getstatic, Putstatic, Invokevirtual}
 use Rattle.class_format.specs.declared.record.ClassRecord.{ClassRecord}

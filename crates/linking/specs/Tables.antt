@@ -8,6 +8,7 @@ use Rattle.class_format.specs.declared.record.Member.{Member}
 use Rattle.opcodes.specs.Faults.{HasFault}
 use Rattle.opcodes.specs.Reached.{IsListingOf}
 use Rattle.opcodes.specs.declared.listed.Listed.{Listed}
+use Rattle.program.specs.Names.{IsName}
 use Rattle.program.specs.Program.{Prog}
 use Rattle.program.specs.Straight.{IsStraight}
 use Rattle.program.specs.declared.method.Method.{Method}
@@ -28,6 +29,7 @@ pub record AreFieldNames (r : ClassRecord) (names : List (List ℕ)) : Type 0 wh
   pub names_are : names ≡ names_of_fields r
   pub plain : All (IsPlainField r.pool) r.fields
   pub few : length r.fields < 2 ^ 16
+  pub spelt : All (λ m. IsName (text_of r.pool m.name)) r.fields
 
 -- a field that is named is one of so many
 abbrev pub IsWithin : ℕ → Symbol → Type 0

@@ -14,9 +14,7 @@ use crate::names::{
     text_of,
 };
 use crate::refusal::ProgramRefusal;
-use class_format::{
-    Attribute, Attributes, ClassRecord, CodeBody, Member, PoolEntries, PoolEntry,
-};
+use class_format::{Attribute, Attributes, ClassRecord, CodeBody, Member, PoolEntries, PoolEntry};
 use program::Name;
 use std::alloc::Global;
 

@@ -1,6 +1,6 @@
 //! The names of a class's fields, for look-ups.
 
-ghost use Rattle.std.specs.Prelude.{◌≡◌, ◌<◌, ◌++◌, [], ◌∷◌, Err, IfOk, IfSome, OnOk, OnErr, true, not, length, position};
+ghost use Rattle.std.specs.Prelude.{◌≡◌, ◌<◌, ◌≤◌, ◌++◌, [], ◌∷◌, All, Err, IfOk, IfSome, OnOk, OnErr, true, not, length, position};
 ghost use Rattle.std.specs.List.{list_any};
 ghost use Rattle.linking.specs.Names.{same_text};
 ghost use Rattle.linking.specs.StraightClass.{AreApart};
@@ -12,6 +12,9 @@ use class_format::ClassRecord;
 use indexmap::IndexSet;
 use std::alloc::Global;
 use std::marker::Model;
+
+/// The greatest length of a name that can be written (docs/TEXTS.md, "Names").
+const LONGEST_NAME: usize = 200;
 
 /// The names of a class's fields, no two alike, in the order of the fields.
 #[derive(Drop)]
@@ -65,11 +68,15 @@ impl<'a> FieldNames<'a> {
         Ok(names)
     }
 
-    /// The place of the field with this name.
+    /// The place of the field with this name. A name that is too long for a field's is not looked up.
     pub fn place_of(&self, name: &[u8]) -> Option<usize>
+        requires { All (λ known. length known ≤ 200) self.now }
         ensures place { result ≡ position (λ known. same_text name.now known) self.now }
         ensures within { IfSome result (λ place. place < length self.now) }
     {
+        if name.len() > LONGEST_NAME {
+            return None;
+        }
         self.names.get_index_of(name)
     }
 }

@@ -14,3 +14,6 @@ mod typing;
 pub use class_list::ClassList;
 pub use linker::link;
 pub use refusal::ProgramRefusal;
+
+#[cfg(test)]
+mod tests;

@@ -119,9 +119,7 @@ fn with_main(
         result: false,
         monitor: None,
     };
-    program
-        .add_thread(id)
-        .map_err(|_| ProgramRefusal::Memory)?;
+    program.add_thread(id).map_err(|_| ProgramRefusal::Memory)?;
     program
         .add_method(Method {
             id,
@@ -134,11 +132,7 @@ fn with_main(
 }
 
 /// The program of a class with the shape and the names of a straight one.
-fn link_main(
-    alloc: Global,
-    class: &ClassRecord,
-    main: &Main,
-) -> Result<Program, ProgramRefusal>
+fn link_main(alloc: Global, class: &ClassRecord, main: &Main) -> Result<Program, ProgramRefusal>
     requires valid { IsValid class.now }
     requires shape { HasStraightShape class.now main.now.method.now main.now.body.now }
     requires names { HasPlainNames class.now }

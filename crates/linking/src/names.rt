@@ -7,9 +7,13 @@ use class_format::{ClassRecord, PoolEntries, PoolEntry, entry_at};
 
 /// The flags that linking looks at (JVMS 4.1, 4.5, 4.6).
 pub const STATIC: u16 = 0x0008;
+
 pub const FINAL: u16 = 0x0010;
+
 pub const SYNCHRONIZED: u16 = 0x0020;
+
 pub const VOLATILE: u16 = 0x0040;
+
 pub const INTERFACE: u16 = 0x0200;
 
 /// Whether two texts are the same bytes.
@@ -94,10 +98,7 @@ pub fn is_reference(pool: &PoolEntries, reference: Reference, expected: &Expecte
     ensures { result ≡ is_reference expected.now.class.now expected.now.name.now expected.now.descriptor.now (reference_of pool.now reference.class reference.name_and_type) }
 {
     same_text(class_name_of(pool, reference.class), expected.class)
-        && same_text(
-            member_name_of(pool, reference.name_and_type),
-            expected.name,
-        )
+        && same_text(member_name_of(pool, reference.name_and_type), expected.name)
         && same_text(
             descriptor_of(pool, reference.name_and_type),
             expected.descriptor,

@@ -72,10 +72,10 @@ fn variable_of(
     ensures variable { IfOk result (λ v. v ≡ variable_of class.now field.now) }
     ensures memory { OnErr result (result ≡ Err ProgramRefusal.Memory) }
 {
-    let class_name =
-        Name::copied(alloc, name_of(class)).map_err(|_| ProgramRefusal::Memory)?;
-    let name = Name::copied(alloc, text_of(&class.pool, field.name))
-        .map_err(|_| ProgramRefusal::Memory)?;
+    let class_name = Name::copied(alloc, name_of(class)).map_err(|_| ProgramRefusal::Memory)?;
+    let name = Name::copied(alloc, text_of(&class.pool, field.name)).map_err(
+        |_| ProgramRefusal::Memory,
+    )?;
     Ok(Variable {
         class: class_name,
         name,
@@ -130,11 +130,7 @@ impl Symbols {
     }
 
     /// A program with the variables alone, at most 16, in the order of the fields.
-    pub fn variables(
-        &self,
-        alloc: Global,
-        class: &ClassRecord,
-    ) -> Result<Program, ProgramRefusal>
+    pub fn variables(&self, alloc: Global, class: &ClassRecord) -> Result<Program, ProgramRefusal>
         requires fields { length self.now.is_variable.items ≡ length class.now.fields }
         requires class { IsName (name_of class.now) }
         requires names { All (λ m. IsName (text_of class.now.pool m.name)) class.now.fields }

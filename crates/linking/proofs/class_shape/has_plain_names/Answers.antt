@@ -1,5 +1,5 @@
 -- Each name is tested in turn.
-use Rattle.std.proofs.Common.{◌≡◌, ℕ, List, All, take, nat_eq, codes, refl, subst, sym, ap, ◌∙◌}
+use Rattle.std.proofs.Common.{ℕ, List, All, take, nat_eq, codes, refl, subst, sym, ap, ◌∙◌}
 use Rattle.std.specs.List.{starts_with}
 use Rattle.std.proofs.lemmas.List.{take_all}
 use Rattle.std.proofs.lemmas.List.Elements.{All-push}
@@ -25,9 +25,11 @@ loop-field-preserved c =
 pub returns-clause-told : goal.returns-clause-told
 returns-clause-told c =
     let pool = c.args.class.now.pool in
-    let all = take_all c.loop-field.field-index c.as_slice-field-items.result.now c.loop-field-test.false ∙ c.as_slice-field-items.ensures in
-    (λ t. record {
-      class = subst IsName c.name_of-name.ensures (c.in_ok-is_name.ensures.told.0 c.if-not-branch.false);
-      not_of_the_library = ap (λ (name : List ℕ). starts_with nat_eq name (codes "java/")) (sym c.name_of-name.ensures) ∙ sym c.starts_with.ensures.value ∙ c.if-starts_with.false;
-      fields = subst (All (IsSpelt pool)) all c.loop-field.invariant
-    }, λ h. refl)
+    let all = take_all c.loop-field.field-index c.as_slice-field-items.result.now c.loop-field-test.false ∙ c.as_slice-field-items.ensures in (
+      λ t. record {
+        class = subst IsName c.name_of-name.ensures (c.in_ok-is_name.ensures.told.0 c.if-not-branch.false);
+        not_of_the_library = ap (λ (name : List ℕ). starts_with nat_eq name (codes "java/")) (sym c.name_of-name.ensures) ∙ sym c.starts_with.ensures.value ∙ c.if-starts_with.false;
+        fields = subst (All (IsSpelt pool)) all c.loop-field.invariant;
+      },
+      λ h. refl,
+    )

@@ -1,8 +1,7 @@
 -- A code with a fault, or that goes on behind the last reached instruction, has no straight listing.
-use Rattle.std.proofs.Common.{◌≡◌, ℕ, Bool, false, List, refl, subst, sym, ap, ◌∙◌}
+use Rattle.std.proofs.Common.{ℕ, List, subst, sym, ◌∙◌}
 use Rattle.std.proofs.lemmas.Bool.{false≢true}
 use Rattle.opcodes.specs.Faults.{HasFault}
-use Rattle.opcodes.specs.Reached.{IsListingOf}
 use Rattle.opcodes.specs.declared.listed.Listed.{Listed}
 use Rattle.opcodes.specs.declared.listed.Listing.{Listing}
 use Rattle.opcodes.proofs.SameListing.{one_listing}
@@ -28,5 +27,5 @@ returns-clause-listing c =
     (record {
       reached = c.in_ok-listing.ensures.listing;
       faultless = c.in_ok-listing.ensures.faultless;
-      to_the_end = c.is_to_the_end.ensures.0 c.if-not-is_to_the_end.false
+      to_the_end = c.is_to_the_end.ensures.0 c.if-not-is_to_the_end.false;
     })

@@ -1,6 +1,7 @@
 -- All fields are plain ints, so that the name alone tells which one it is.
-use Rattle.std.proofs.Common.{◌≡◌, Some, None, List, ℕ, codes, position, sym, ap, ◌∙◌}
+use Rattle.std.proofs.Common.{Some, None, ◌≤◌, List, ℕ, length, All, subst, codes, position, sym, ap, ◌∙◌}
 use Rattle.linking.specs.Names.{same_text, reference_of}
+use Rattle.linking.proofs.Fields.{short_names}
 use Rattle.linking.proofs.OwnFields.{another_descriptor, found_by_name}
 use Rattle.linking.proofs.symbol.own_field.Goals as goal
 
@@ -23,3 +24,7 @@ returns-in-None-clause-value c =
     found_by_name r (reference_of r.pool c.args.reference.class c.args.reference.name_and_type) c.requires.plain c.args.names.now None c.requires.names_are
     (ap (λ (d : List ℕ). same_text d (codes "I")) (sym c.descriptor_of-descriptor.ensures) ∙ sym c.same_text.ensures.value ∙ c.if-not-same_text.false)
     (sym c.in-None.is ∙ c.place_of.ensures.place ∙ ap (λ (n : List ℕ). position (same_text n) c.args.names.now) c.member_name_of.ensures)
+
+pub place_of-requires : goal.place_of-requires
+place_of-requires c =
+    subst (All (λ known. length known ≤ 200)) (sym c.requires.names_are) (short_names c.args.class.now.pool c.args.class.now.fields c.requires.spelt)

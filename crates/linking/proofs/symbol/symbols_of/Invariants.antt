@@ -7,5 +7,5 @@ use Rattle.linking.proofs.symbol.symbols_of.Given as goal
 abbrev pub invariant-loop-item : goal.invariant-loop-item
 invariant-loop-item l = record {
   value : l.symbols.items ≡ map (λ item. symbol_of l.class item.instr) (take l.item-index l.item-items);
-  within : All (IsWithin (length l.class.fields)) l.symbols.items
+  within : All (IsWithin (length l.class.fields)) l.symbols.items;
 }

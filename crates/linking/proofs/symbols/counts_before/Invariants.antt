@@ -7,5 +7,5 @@ invariant-loop-mark l = record {
   size : length l.counts.items ≡ l.mark-index;
   count : l.count ≡ count_by (λ b. b) (take l.mark-index l.marks);
   few : l.count ≤ l.mark-index;
-  counts : (k d : ℕ) → k < l.mark-index → get_or l.counts.items k d ≡ count_by (λ b. b) (take k l.marks)
+  counts : (k d : ℕ) → k < l.mark-index → get_or l.counts.items k d ≡ count_by (λ b. b) (take k l.marks);
 }

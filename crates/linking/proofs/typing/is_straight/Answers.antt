@@ -1,5 +1,5 @@
 -- A step leads to the next place; where there is none, the code is not straight.
-use Rattle.std.proofs.Common.{◌≡◌, ◌+◌, ◌<◌, ℕ, pos, Bool, true, false, length, get_or, subst, sym, ap, ap₂, ◌∙◌, arith}
+use Rattle.std.proofs.Common.{◌≡◌, ◌+◌, ◌<◌, ℕ, pos, Bool, length, get_or, subst, sym, ap₂, ◌∙◌, arith}
 use Rattle.opcodes.specs.Instructions.{length_of}
 use Rattle.opcodes.specs.declared.instruction.Instr.TheVariants.{Nop}
 use Rattle.opcodes.specs.declared.listed.Listed.{Listed}
@@ -25,7 +25,7 @@ loop-place-preserved c =
     let told = subst (λ (b : Bool). TellsStep c.args.limits.variables c.args.limits.max_stack c.loop-place.pc item names c.loop-place.stack c.step.new.self b) c.if-not-branch.false c.in_ok-step.ensures.told in
     let within : c.loop-place.place + 1 < length c.args.listing.now = omega (arith, c.if-place-listing.false, c.loop-place-test.true) in
     let place : c.loop-place.pc + length_of item.instr ≡ c.from.result + c.from-in-loop-place.result =
-      ap₂ (λ (a b : ℕ). a + b) (sym told.step.place ∙ sym c.from.ensures) (sym c.length.ensures ∙ sym c.from-in-loop-place.ensures) in
+    ap₂ (λ (a b : ℕ). a + b) (sym told.step.place ∙ sym c.from.ensures) (sym c.length.ensures ∙ sym c.from-in-loop-place.ensures) in
     subst (λ (pc : ℕ). Same c.args.limits.variables c.args.limits.max_stack c.args.listing.now c.args.operands.now pc c.step.new.self (c.loop-place.place + 1)) place
     (goes_on_at c.args.limits.variables c.args.limits.max_stack c.args.listing.now c.args.operands.now c.requires c.loop-place.place c.loop-place.pc c.loop-place.stack c.step.new.self
     (record { pc = 0; instr = Nop }) (Constant (pos 0)) within told c.loop-place.invariant)

@@ -1,5 +1,5 @@
 -- With one more valid class the list stays one of valid classes.
-use Rattle.std.proofs.Common.{◌≡◌, ◌<◌, ◌≤◌, ◌++◌, [], ◌∷◌, List, Bool, true, false, cond, length, All, arith, subst, sym, ap, ◌∙◌, length-append}
+use Rattle.std.proofs.Common.{◌<◌, ◌≤◌, ◌++◌, [], ◌∷◌, List, Bool, true, false, cond, length, All, arith, subst, sym, length-append}
 use Rattle.std.specs.Prelude.{is_ok}
 use Rattle.std.proofs.lemmas.List.Elements.{All-push}
 use Rattle.class_format.specs.ClassText.{IsValid}

@@ -35,8 +35,8 @@ loop-field-preserved c =
     let next = take_with fields c.loop-field.field-index field c.loop-field-test.true (sym c.field-item.is) in
     record {
       names = c.in_ok-is_new.ensures.added c.if-not-is_new.false ∙ ap₂ (λ (names : List (List ℕ)) (name : List ℕ). names ++ name ∷ []) c.loop-field.invariant.names c.text_of.ensures
-        ∙ sym (map-append (name_in pool) now (field ∷ [])) ∙ ap (λ (ms : List Member). map (name_in pool) ms) (sym next);
+          ∙ sym (map-append (name_in pool) now (field ∷ [])) ∙ ap (λ (ms : List Member). map (name_in pool) ms) (sym next);
       apart = subst (Apart pool) (sym next) (still_apart pool field now
-        (ap₂ (λ (name : List ℕ) (names : List (List ℕ)). list_any (same_text name) names) (sym c.text_of.ensures) (sym c.loop-field.invariant.names) ∙ none)
-        c.loop-field.invariant.apart)
+          (ap₂ (λ (name : List ℕ) (names : List (List ℕ)). list_any (same_text name) names) (sym c.text_of.ensures) (sym c.loop-field.invariant.names) ∙ none)
+          c.loop-field.invariant.apart);
     }

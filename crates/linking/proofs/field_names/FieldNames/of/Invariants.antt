@@ -6,5 +6,5 @@ use Rattle.linking.proofs.field_names.FieldNames.of.Given as goal
 abbrev pub invariant-loop-field : goal.invariant-loop-field
 invariant-loop-field l = record {
   names : l.names ≡ map (name_in l.class.pool) (take l.field-index l.field-items);
-  apart : Apart l.class.pool (take l.field-index l.field-items)
+  apart : Apart l.class.pool (take l.field-index l.field-items);
 }

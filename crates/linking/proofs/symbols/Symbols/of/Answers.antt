@@ -1,5 +1,5 @@
 -- The counts before the places are the numbers.
-use Rattle.std.proofs.Common.{◌≡◌, ◌<◌, ◌≤◌, ◌∙◌, ℕ, Bool, List, length, sym, ap, subst, arith, get_or, take, count_by, All}
+use Rattle.std.proofs.Common.{◌≡◌, ◌<◌, ◌∙◌, ℕ, Bool, List, length, sym, ap, subst, arith, get_or, take, count_by, All}
 use Rattle.linking.specs.Tables.{MarksVariables, IsWithin}
 use Rattle.linking.specs.declared.symbol.Symbol.{Symbol}
 use Rattle.linking.proofs.Counts.{count_is}
@@ -17,5 +17,5 @@ invariant_of-result c =
       marks = marked;
       numbered = λ k d within. counts k d (omega arith) ∙ count_is symbols marks marked k (omega arith);
       same_length = same;
-      within = subst (λ (n : ℕ). All (IsWithin n) symbols) (sym c.in_ok-is_variable.ensures.len) c.requires.within
+      within = subst (λ (n : ℕ). All (IsWithin n) symbols) (sym c.in_ok-is_variable.ensures.len) c.requires.within;
     }

@@ -9,5 +9,5 @@ abbrev pub invariant-loop-place : goal.invariant-loop-place
 invariant-loop-place l = record {
   program : l.program ≡ with_variables l.program.variables;
   variables : l.program.variables ++ rest_from l.class l.self.items.items l.field-items l.place ≡ variables_from l.class l.self.items.items 0 l.field-items;
-  few : length l.program.variables ≤ 16
+  few : length l.program.variables ≤ 16;
 }

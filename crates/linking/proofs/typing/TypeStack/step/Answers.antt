@@ -1,7 +1,7 @@
 -- A step is a change at its place that leaves the stack within its bound.
-use Rattle.std.proofs.Common.{◌≡◌, ◌≤◌, ◌∙◌, Bool, length, subst, sym, ap, arith}
+use Rattle.std.proofs.Common.{◌≤◌, ◌∙◌, Bool, length, subst, sym, arith}
 use Rattle.linking.specs.Typing.{TellsChange}
-use Rattle.linking.proofs.Changes.{steps_to, no_room}
+use Rattle.linking.proofs.Changes.{steps_to}
 use Rattle.linking.proofs.typing.TypeStack.step.Goals as goal
 
 pub returns-then-not-branch-clause-told : goal.returns-then-not-branch-clause-told
