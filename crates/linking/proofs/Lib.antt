@@ -7,5 +7,6 @@ pub mod Changes
 pub mod Typed
 pub mod Facts
 pub mod Linked
+pub mod Numbers
 pub mod OwnFields
 pub mod Counts

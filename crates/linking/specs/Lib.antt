@@ -4,3 +4,4 @@ pub mod Linking
 pub mod StraightClass
 pub mod Typing
 pub mod Tables
+pub mod Laws

@@ -4,6 +4,7 @@
 mod class_list;
 mod class_shape;
 mod field_names;
+pub mod laws;
 mod linker;
 mod names;
 mod refusal;
