@@ -26,13 +26,13 @@ use Rattle.linking.specs.Tables.{HasStraightShape, IsStraightListing, IsCodeAlon
 
 -- ---- One main, one code, one listing
 
-same_head : {X : Type 0} (x y : X) (xs : List X) → xs ≡ x ∷ [] → xs ≡ y ∷ [] → x ≡ y
+pub same_head : {X : Type 0} (x y : X) (xs : List X) → xs ≡ x ∷ [] → xs ≡ y ∷ [] → x ≡ y
 same_head x y xs e f = cc
 
 same_method : (r : ClassRecord) (m n : Member) (b d : CodeBody) → IsOnlyMain r m b → IsOnlyMain r n d → m ≡ n
 same_method r m n b d first second = same_head m n r.methods first.method second.method
 
-same_code : (b d : CodeBody) (a : Attribute) → out-Attribute a ≡ Code b → out-Attribute a ≡ Code d → b ≡ d
+pub same_code : (b d : CodeBody) (a : Attribute) → out-Attribute a ≡ Code b → out-Attribute a ≡ Code d → b ≡ d
 same_code b d a e f = let g : Code b ≡ Code d = sym e ∙ f in cc
 
 same_body : (r : ClassRecord) (m n : Member) (b d : CodeBody) → IsOnlyMain r m b → IsOnlyMain r n d → b ≡ d

@@ -8,5 +8,6 @@ pub mod Typed
 pub mod Facts
 pub mod Linked
 pub mod Numbers
+pub mod OneProgram
 pub mod OwnFields
 pub mod Counts
