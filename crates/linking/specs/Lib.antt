@@ -1,0 +1,6 @@
+pub mod Names
+pub mod Symbols
+pub mod Linking
+pub mod StraightClass
+pub mod Typing
+pub mod Tables

@@ -1,0 +1,14 @@
+//! Linking: the program that class files make (docs/PROFILE.md, "Linking").
+#![tactic(auto)]
+
+mod class_list;
+mod field_names;
+mod linker;
+mod names;
+mod refusal;
+mod symbol;
+mod symbols;
+
+pub use class_list::ClassList;
+pub use linker::link;
+pub use refusal::ProgramRefusal;
