@@ -1,0 +1,12 @@
+pub mod Alone
+pub mod Along
+pub mod Earlier
+pub mod Listing
+pub mod NoJumps
+pub mod Once
+pub mod OneStep
+pub mod Order
+pub mod Outcomes
+pub mod Seen
+pub mod Steps
+pub mod Values

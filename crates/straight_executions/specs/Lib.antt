@@ -1,0 +1,3 @@
+pub mod LastWrites
+pub mod Laws
+pub mod OneRun
