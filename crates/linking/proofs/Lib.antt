@@ -2,5 +2,10 @@ pub mod Texts
 pub mod Positions
 pub mod Fields
 pub mod Steps
+pub mod Variables
+pub mod Changes
+pub mod Typed
+pub mod Facts
+pub mod Linked
 pub mod OwnFields
 pub mod Counts

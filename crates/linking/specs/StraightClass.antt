@@ -100,7 +100,6 @@ pub record HasPlainNames (r : ClassRecord) : Type 0 where
   pub class : IsName (name_of r)
   pub not_of_the_library : starts_with nat_eq (name_of r) (codes "java/") ≡ false
   pub fields : All (λ m. IsName (text_of r.pool m.name)) r.fields
-  pub apart : AreApart r
 
 -- no refusal of linking, and no limit
 pub record IsLinkable (r : ClassRecord) (main : Member) (body : CodeBody) (listing : List Listed) : Type 0 where
@@ -108,6 +107,7 @@ pub record IsLinkable (r : ClassRecord) (main : Member) (body : CodeBody) (listi
   pub unsynchronized : has_flag main.flags synchronized_flag ≡ false
   pub no_interface : has_flag r.flags interface_flag ≡ false
   pub names : HasPlainNames r
+  pub apart : AreApart r
   pub faultless : (pc : ℕ) → HasFault body.code pc → ⊥
   pub typed : IsStraightFrom (length (variables_of r listing)) body.max_stack 0 [] listing (operands_of r listing)
   pub locals : 1 ≤ body.max_locals

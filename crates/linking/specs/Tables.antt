@@ -1,14 +1,22 @@
 -- What the tables of linking hold.
-use Rattle.std.specs.Prelude.{◌≡◌, ◌<◌, ◌^◌, ◌+◌, ◌≤◌, ℕ, List, [], Bool, true, false, All, length, map, slice_index_or}
+use Rattle.std.specs.Prelude.{◌≡◌, ◌<◌, ◌^◌, ◌+◌, ◌≤◌, ℕ, List, [], ◌∷◌, Bool, true, false, All, length, map, slice_index_or}
+use Rattle.class_format.specs.declared.record.Attribute.{Attribute, out-Attribute}
+use Rattle.class_format.specs.declared.record.Attribute.TheOpen.{Code}
 use Rattle.class_format.specs.declared.record.ClassRecord.{ClassRecord}
 use Rattle.class_format.specs.declared.record.CodeBody.{CodeBody}
 use Rattle.class_format.specs.declared.record.Member.{Member}
+use Rattle.opcodes.specs.Faults.{HasFault}
+use Rattle.opcodes.specs.Reached.{IsListingOf}
+use Rattle.opcodes.specs.declared.listed.Listed.{Listed}
 use Rattle.program.specs.Program.{Prog}
+use Rattle.program.specs.Straight.{IsStraight}
+use Rattle.program.specs.declared.method.Method.{Method}
+use Rattle.program.specs.declared.method.Operand.{Operand}
 use Rattle.program.specs.declared.program.Variable.{Variable}
 use Rattle.linking.specs.Names.{text_of, has_flag}
 use Rattle.linking.specs.Symbols.{static_flag}
-use Rattle.linking.specs.Linking.{synchronized_flag, is_variable, number_of}
-use Rattle.linking.specs.StraightClass.{IsPlainClass, IsPlainField, IsOnlyMain, interface_flag}
+use Rattle.linking.specs.Linking.{synchronized_flag, is_variable, number_of, main_frame, IsProgramOf}
+use Rattle.linking.specs.StraightClass.{IsPlainClass, IsPlainField, IsOnlyMain, interface_flag, IsStraightClass, IsToTheEnd}
 use Rattle.linking.specs.declared.symbol.Symbol.{Symbol}
 use Rattle.linking.specs.declared.symbol.Symbol.TheVariants.{Field}
 
@@ -47,3 +55,43 @@ pub record HasStraightShape (r : ClassRecord) (main : Member) (body : CodeBody) 
 -- a program of nothing but variables
 abbrev pub with_variables : List Variable → Prog
 with_variables variables = record { variables = variables; monitors = []; threads = []; methods = [] }
+
+-- the program of one straight class with this code
+abbrev pub main_method : CodeBody → List Listed → List Operand → Method
+main_method body listing operands = record { id = record { class = 0; method = 0 }; frame = main_frame body; listing = listing; operands = operands }
+
+abbrev pub main_program : List Variable → CodeBody → List Listed → List Operand → Prog
+main_program variables body listing operands = record {
+  variables = variables;
+  monitors = [];
+  threads = record { class = 0; method = 0 } ∷ [];
+  methods = main_method body listing operands ∷ [];
+}
+
+-- a straight class and its program, which is straight
+pub record LinksStraight (r : ClassRecord) (p : Prog) : Type 0 where
+  pub class : IsStraightClass r
+  pub program : IsProgramOf (r ∷ []) p
+  pub straight : IsStraight p
+
+-- the one attribute is a Code attribute with this body
+pub record IsCodeAlone (attributes : List Attribute) (body : CodeBody) : Type 0 where
+  pub attribute : Attribute
+  pub alone : attributes ≡ attribute ∷ []
+  pub code : out-Attribute attribute ≡ Code body
+
+abbrev pub HasNoCodeAlone : List Attribute → Type 0
+HasNoCodeAlone attributes = (body : CodeBody) → IsCodeAlone attributes body → ⊥
+
+-- what linking asks of main's flags and frame
+pub record IsLinkableMain (main : Member) (body : CodeBody) : Type 0 where
+  pub static : has_flag main.flags static_flag ≡ true
+  pub unsynchronized : has_flag main.flags synchronized_flag ≡ false
+  pub locals : 1 ≤ body.max_locals
+  pub few_slots : body.max_locals + body.max_stack ≤ 16
+
+-- the reached instructions of a code without a fault, the last of which ends where the code ends
+pub record IsStraightListing (code : List ℕ) (listing : List Listed) : Type 0 where
+  pub reached : IsListingOf code listing
+  pub faultless : (pc : ℕ) → HasFault code pc → ⊥
+  pub to_the_end : IsToTheEnd code listing

@@ -1,5 +1,5 @@
 -- The types on the stack along straight code, as a test finds them out.
-use Rattle.std.specs.Prelude.{◌≡◌, ℕ, List, Bool, true, false}
+use Rattle.std.specs.Prelude.{◌≡◌, ℕ, List, ◌∷◌, Bool, true, false}
 use Rattle.opcodes.specs.declared.instruction.Instr.{Instr}
 use Rattle.opcodes.specs.declared.listed.Listed.{Listed}
 use Rattle.program.specs.Straight.{ChangesStack, IsStraightStep}
@@ -26,3 +26,8 @@ abbrev pub TellsStep : ℕ → ℕ → ℕ → Listed → Operand → List Stack
 TellsStep variables max_stack pc item names before after true = StepsTo variables max_stack pc item names before after
 TellsStep variables max_stack pc item names before after false =
     (other : List StackType) → IsStraightStep variables max_stack pc item names before other → ⊥
+
+-- whether this type is on top of the stack, and the rest below it
+abbrev pub TellsTop : List StackType → StackType → List StackType → Bool → Type 0
+TellsTop before wanted after true = before ≡ wanted ∷ after
+TellsTop before wanted after false = (rest : List StackType) → before ≡ wanted ∷ rest → ⊥

@@ -2,12 +2,14 @@
 #![tactic(auto)]
 
 mod class_list;
+mod class_shape;
 mod field_names;
 mod linker;
 mod names;
 mod refusal;
 mod symbol;
 mod symbols;
+mod typing;
 
 pub use class_list::ClassList;
 pub use linker::link;
