@@ -65,7 +65,7 @@ one_body pool m b d method first second =
     let i = place_of m.attributes first.attribute first.among in
     let j = place_of m.attributes second.attribute second.among in
     let same = only_one is_code m.attributes i.0 j.0 first.attribute second.attribute method.one_code i.1 j.1
-      (ap (λ (a : Attribute-F Attribute CodeBody). is_code_open a) first.code) (ap (λ (a : Attribute-F Attribute CodeBody). is_code_open a) second.code) in
+    (ap (λ (a : Attribute-F Attribute CodeBody). is_code_open a) first.code) (ap (λ (a : Attribute-F Attribute CodeBody). is_code_open a) second.code) in
     same_code b d first.attribute first.code (ap (λ (a : Attribute). out-Attribute a) same ∙ second.code)
 
 -- ---- One program
@@ -89,8 +89,18 @@ made_of : (r : ClassRecord) (p : Prog) → IsProgramOf (r ∷ []) p → Made r p
 made_of r p h =
     subst (λ (c : ClassRecord). Made c p) (same_head h.class r (r ∷ []) h.one_class refl)
     (record {
-      place = h.place; body = h.body; main = h.main; method = h.method; id = h.id; frame = h.frame; listing = h.listing; operands = h.operands;
-      methods = h.methods; threads = h.threads; variables = h.variables; monitors = h.monitors
+      place = h.place;
+      body = h.body;
+      main = h.main;
+      method = h.method;
+      id = h.id;
+      frame = h.frame;
+      listing = h.listing;
+      operands = h.operands;
+      methods = h.methods;
+      threads = h.threads;
+      variables = h.variables;
+      monitors = h.monitors;
     })
 
 abbrev made_method : MethodId → Frame → List Listed → List Operand → Method

@@ -25,9 +25,9 @@ module _ (p : Prog) (h : IsStraight p) (q : Question) (run : StraightRun) (is : 
   -- an outcome that the run does not show is forbidden
   pub forbidden : StraightForbids → (ShowsOutcome q run → ⊥) → IsPossibleWithin p q.outcome q.bounds → ⊥
   forbidden law not possible = not (record {
-      fit = subst (λ xs. All (Fits q.bounds.width) xs) (sym (is.ints h.main h.method)) (law p h q.outcome q.bounds possible).0;
-      prints = subst (λ xs. NamesMain q.outcome xs) (sym (is.printed h.main h.method)) (law p h q.outcome q.bounds possible).1;
-    })
+    fit = subst (λ xs. All (Fits q.bounds.width) xs) (sym (is.ints h.main h.method)) (law p h q.outcome q.bounds possible).0;
+    prints = subst (λ xs. NamesMain q.outcome xs) (sym (is.printed h.main h.method)) (law p h q.outcome q.bounds possible).1;
+  })
 
   shows_all : (e : Exec) → Prints p e 0 (printed_of p h.main) → NamesMain q.outcome run.printed → Shows p e q.outcome
   shows_all e prints names k d within =

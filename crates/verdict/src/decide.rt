@@ -12,7 +12,8 @@ use crate::judge::judge;
 use crate::question::{Question, ask};
 use crate::stop::Stop;
 use crate::whole_file::read_whole;
-use line_text::{Words, bounds::Bounds};
+use line_text::Words;
+use line_text::bounds::Bounds;
 use ports::Files;
 use program::Program;
 use std::alloc::Global;
@@ -76,11 +77,7 @@ fn answer<F: Files>(
 }
 
 /// The verdict that the words ask for.
-pub(crate) fn decide<F: Files>(
-    alloc: Global,
-    words: &Words,
-    files: &mut F,
-) -> Result<Verdict, Stop>
+pub(crate) fn decide<F: Files>(alloc: Global, words: &Words, files: &mut F) -> Result<Verdict, Stop>
     ensures ok { IfOk result (IsVerdict words.now (F.content files.old) (F.content files.new)) }
     ensures cause { IfErr result (IsStopped words.now (F.content files.old) (F.read_faults files.old) (F.read_faults files.new) (F.write_faults files.old) (F.write_faults files.new)) }
     ensures files { DecideLeaves words.now result (F.content files.old) (F.content files.new) }

@@ -68,12 +68,7 @@ fn report_verdict<S: Sink>(out: &mut S, verdict: &Verdict) -> Status
 /// where the words are not `decide` with one class file, or the class is not straight; the words are judged first. `ReadFault`
 /// and `WriteFault` come only where a count of faults rose, and want of memory at any time. No file changes but SEQ, and that
 /// only with `Allowed` and with `WriteFault`.
-pub fn run<F: Files, S: Sink>(
-    alloc: Global,
-    words: &Words,
-    files: &mut F,
-    out: &mut S,
-) -> Status
+pub fn run<F: Files, S: Sink>(alloc: Global, words: &Words, files: &mut F, out: &mut S) -> Status
     ensures allowed { result ≡ Status.Allowed → IsAnswered true words.now (F.content files.old) (F.content files.new) (S.held out.old) (S.held out.new) }
     ensures forbidden { result ≡ Status.Forbidden → IsAnswered false words.now (F.content files.old) (F.content files.new) (S.held out.old) (S.held out.new) }
     ensures refused { result ≡ Status.Refused → IsNotBuilt words.now (F.content files.old) }

@@ -3,7 +3,8 @@
 /// One line.
 pub const VERSION: &str = "jmm 0.1\n";
 
-pub const HELP: &str = "jmm decides whether a small Java program may show an outcome under the Java Memory Model
+pub const HELP: &str =
+    "jmm decides whether a small Java program may show an outcome under the Java Memory Model
 (JLS third edition, 17.4), and writes a certificate.
 
 usage:

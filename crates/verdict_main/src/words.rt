@@ -1,8 +1,7 @@
 //! The words of the command line.
 
 use line_text::Words;
-use std::env;
-use std::io;
+use std::{env, io};
 
 /// What the command line asks for.
 pub enum Asked {

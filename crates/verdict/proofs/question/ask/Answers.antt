@@ -8,4 +8,4 @@ use Rattle.verdict.proofs.question.ask.Goals as goal
 pub returns-in-Err-Usage-clause-refused : goal.returns-in-Err-Usage-clause-refused
 returns-in-Err-Usage-clause-refused c =
     λ q asks. (subst (λ (r : WordsRefusal). IsRefusedFor c.args.words.now r) c.in-Err-Usage.field-0-is c.in-Err-Usage.ensures.refused).fault
-        (Decide q.bounds q.budget q.outcome 5 6 7) asks.line
+    (Decide q.bounds q.budget q.outcome 5 6 7) asks.line
