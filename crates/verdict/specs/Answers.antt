@@ -61,3 +61,23 @@ PutsLine Refused old new = Grows old new (output_text (NotBuilt ∷ []))
 PutsLine ReadFault old new = Grows old new (output_text read_fault_parts)
 PutsLine Memory old new = Grows old new []
 PutsLine status old new = ⊤
+
+-- the words ask a question, the class file that they name is told and straight, and no count of faults rose
+pub record GoesWell (words : List (List ℕ)) (old : Contents) (reads_old reads_new writes_old writes_new puts_old puts_new : ℕ) : Type 0 where
+  pub question : Question
+  pub asks : Asks words question
+  pub class : List ℕ
+  pub is_class : IsWord words class_place class
+  pub bytes : List ℕ
+  pub told : old class ≡ Some bytes
+  pub straight : IsStraightFile bytes
+  pub no_read_fault : Rose reads_old reads_new → ⊥
+  pub no_write_fault : Rose writes_old writes_new → ⊥
+  pub no_output_fault : Rose puts_old puts_new → ⊥
+
+-- a verdict, or want of memory
+abbrev pub IsVerdictOrMemory : Status → Type 0
+IsVerdictOrMemory Allowed = ⊤
+IsVerdictOrMemory Forbidden = ⊤
+IsVerdictOrMemory Memory = ⊤
+IsVerdictOrMemory status = ⊥

@@ -3,7 +3,7 @@
 ghost use Rattle.std.specs.Prelude.{◌≡◌, ◌⊎◌, true, false};
 ghost use Rattle.ports.specs.Faults.{Rose};
 ghost use Rattle.verdict.specs.Reports.{PutsParts, parts_of, status_of};
-ghost use Rattle.verdict.specs.Answers.{IsAnswered, IsNotBuilt, IsReadFault, LeavesFiles, PutsLine};
+ghost use Rattle.verdict.specs.Answers.{GoesWell, IsAnswered, IsNotBuilt, IsReadFault, IsVerdictOrMemory, LeavesFiles, PutsLine};
 
 use crate::decide::{Verdict, decide};
 use crate::output::Part;
@@ -74,6 +74,7 @@ pub fn run<F: Files, S: Sink>(alloc: Global, words: &Words, files: &mut F, out: 
     ensures refused { result ≡ Status.Refused → IsNotBuilt words.now (F.content files.old) }
     ensures read_fault { result ≡ Status.ReadFault → IsReadFault words.now (F.read_faults files.old) (F.read_faults files.new) }
     ensures write_fault { result ≡ Status.WriteFault → Rose (F.write_faults files.old) (F.write_faults files.new) ⊎ Rose (S.faults out.old) (S.faults out.new) }
+    ensures complete { GoesWell words.now (F.content files.old) (F.read_faults files.old) (F.read_faults files.new) (F.write_faults files.old) (F.write_faults files.new) (S.faults out.old) (S.faults out.new) → IsVerdictOrMemory result }
     ensures files { LeavesFiles result words.now (F.content files.old) (F.content files.new) }
     ensures line { PutsLine result (S.held out.old) (S.held out.new) }
     ensures rest { S.same_rest out.old out.new }
