@@ -4,6 +4,6 @@
 mod names;
 
 pub use names::{
-    Expected, FINAL, INTERFACE, Reference, STATIC, SYNCHRONIZED, VOLATILE, class_name_of,
+    ABSTRACT, Expected, FINAL, INTERFACE, Reference, STATIC, SYNCHRONIZED, VOLATILE, class_name_of,
     descriptor_of, has_flag, is_reference, member_name_of, name_of, same_text, text_of,
 };

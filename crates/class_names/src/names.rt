@@ -16,6 +16,8 @@ pub const VOLATILE: u16 = 0x0040;
 
 pub const INTERFACE: u16 = 0x0200;
 
+pub const ABSTRACT: u16 = 0x0400;
+
 /// Whether two texts are the same bytes.
 pub fn same_text(a: &[u8], b: &[u8]) -> bool
     ensures value { result ≡ same_text a.now b.now }

@@ -1,0 +1,14 @@
+//! Which classes are of the profile (docs/PROFILE.md, "Classes of the profile").
+#![tactic(auto)]
+
+mod check;
+mod distinct;
+mod main_method;
+mod members;
+mod name_form;
+mod refusal;
+mod text_set;
+mod threads;
+
+pub use main_method::{MainPlace, main_of};
+pub use refusal::{ClassKind, ProfileRefusal};
