@@ -2,6 +2,9 @@ pub mod Order
 pub mod Told
 pub mod Places
 pub mod Mains
-pub mod FirstFault
 pub mod Texts
-pub mod Distinct
+pub mod Numbers
+pub mod SameTexts
+pub mod Pairs
+pub mod MemberKeys
+pub mod FirstFault
