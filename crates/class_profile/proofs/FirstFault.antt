@@ -1,5 +1,5 @@
 -- The first class with a fault of a kind.
-use Rattle.std.proofs.Common.{◌≡◌, ◌<◌, ◌≤◌, ◌+◌, ℕ, List, Some, length, take, slice_get, arith, refl, sym, ap, ◌∙◌, subst, inl, inr}
+use Rattle.std.proofs.Common.{◌≡◌, ◌<◌, ◌≤◌, ◌+◌, ℕ, List, Some, length, take, slice_get, arith, sym, subst, inl, inr}
 use Rattle.std.proofs.lemmas.Option.{slice_get_within}
 use Rattle.relations.specs.Least.{IsLeast}
 use Rattle.class_format.specs.declared.record.ClassRecord.{ClassRecord}
@@ -29,10 +29,10 @@ module _ (kind : ClassKind) (classes : List ClassRecord) where
     met_more met before k other below there = elim (below_next k n below) [
       | inl less ↦ before k other less there
       | inr same ↦ at_here k other same there met
-      ]
+    ]
 
     pub first_fault : (Meets kind (take n classes) class → ⊥) → MetBefore kind classes n → IsLeast (HasFault kind classes) n
     first_fault broken before = record {
       holds = record { class = class; there = here; broken = broken };
-      least = λ m fault. not_below m n (λ less. fault.broken (before m fault.class less fault.there))
+      least = λ m fault. not_below m n (λ less. fault.broken (before m fault.class less fault.there));
     }

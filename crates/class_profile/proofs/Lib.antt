@@ -7,4 +7,6 @@ pub mod Numbers
 pub mod SameTexts
 pub mod Pairs
 pub mod MemberKeys
+pub mod ClassNames
+pub mod KindOrder
 pub mod FirstFault

@@ -1,5 +1,5 @@
 -- The mains before a place, taking the classes one after the other and in each its methods.
-use Rattle.std.proofs.Common.{◌≡◌, ◌<◌, ◌≤◌, ◌+◌, ◌⊎◌, inl, inr, ℕ, Bool, true, false, Option, Some, None, is_some, List, length, slice_get, arith, refl, sym, ap, ◌∙◌, subst, MatchOption}
+use Rattle.std.proofs.Common.{◌≡◌, ◌<◌, ◌≤◌, ◌+◌, ◌⊎◌, inl, inr, ℕ, true, false, Option, Some, None, is_some, List, length, slice_get, arith, refl, sym, ◌∙◌, subst, MatchOption}
 use Rattle.std.proofs.lemmas.Option.{slice_get_within}
 use Rattle.class_format.specs.declared.record.ClassRecord.{ClassRecord}
 use Rattle.class_format.specs.declared.record.Member.{Member}
@@ -52,9 +52,9 @@ module _ (classes : List ClassRecord) (i : ℕ) (class : ClassRecord) (here : sl
   step_out c m (inl less) is = elim (below_next c i less) [
     | inl lower ↦ inl lower
     | inr at ↦
-      let there = subst (λ (n : ℕ). IsMainAt classes n m) at is in
-      inr (at, slice_get_within class.methods m there.method (methods_of m there))
-    ]
+        let there = subst (λ (n : ℕ). IsMainAt classes n m) at is in
+        inr (at, slice_get_within class.methods m there.method (methods_of m there))
+  ]
 
   wider : (j : ℕ) → length class.methods ≤ j → (c m : ℕ) → Before c m i (length class.methods) → Before c m i j
   wider j all c m (inl less) = inl less
@@ -69,7 +69,7 @@ module _ (classes : List ClassRecord) (i : ℕ) (class : ClassRecord) (here : sl
   next_class j (Some p) all one = record {
     before = inl (lower p.class p.method one.before);
     main = one.main;
-    only = λ c m before is. one.only c m (wider j all c m (step_out c m before is)) is
+    only = λ c m before is. one.only c m (wider j all c m (step_out c m before is)) is;
   }
 
   module _ (j : ℕ) (m : Member) (there : slice_get class.methods j ≡ Some m) where
@@ -85,14 +85,14 @@ module _ (classes : List ClassRecord) (i : ℕ) (class : ClassRecord) (here : sl
     pass_method None not_main none = λ c k before is. elim (step_in c k i j before) [
       | inl earlier ↦ none c k earlier is
       | inr same ↦ not_main (main_of_class j m there (at_here c k same is))
-      ]
+    ]
     pass_method (Some p) not_main one = record {
       before = further p.class p.method one.before;
       main = one.main;
       only = λ c k before is. elim (step_in c k i j before) [
         | inl earlier ↦ one.only c k earlier is
         | inr same ↦ absurd (not_main (main_of_class j m there (at_here c k same is)))
-        ]
+      ];
     }
 
     -- the first main
@@ -100,7 +100,7 @@ module _ (classes : List ClassRecord) (i : ℕ) (class : ClassRecord) (here : sl
     meet_main main none = record {
       before = inr (refl, omega arith);
       main = main_at j m there main;
-      only = λ c k before is. elim (step_in c k i j before) [ inl earlier ↦ absurd (none c k earlier is) | inr same ↦ same ]
+      only = λ c k before is. elim (step_in c k i j before) [ inl earlier ↦ absurd (none c k earlier is) | inr same ↦ same ];
     }
 
     -- a second main
@@ -129,5 +129,5 @@ pub all_classes : (classes : List ClassRecord) (i : ℕ) (found : Option MainPla
 all_classes classes i None all none = λ one. none one.class_place one.method_place (inl (omega (arith, slice_get_within classes one.class_place one.one.main.class one.one.main.class_there))) one.one.main
 all_classes classes i (Some p) all one = record {
   main = one.main;
-  only = λ c m is. one.only c m (inl (omega (arith, slice_get_within classes c is.class is.class_there))) is
+  only = λ c m is. one.only c m (inl (omega (arith, slice_get_within classes c is.class is.class_there))) is;
 }

@@ -28,9 +28,9 @@ module _ (class : ClassRecord) (numbers : List ℕ) (right : NumbersTexts class.
 
   one_name : (f g : Member) → (eqb (field_key g) (field_key f) ≡ false) ↔ (member_name class.pool f ≢ member_name class.pool g)
   one_name f g = (
-      λ differ same. not_both (eqb (field_key g) (field_key f)) differ (eq-eqb (field_key g) (field_key f) (sym ((right f.name g.name).1 same))),
-      λ differ. not_true (eqb (field_key g) (field_key f)) (λ passes. differ (sym ((right g.name f.name).0 (eqb-true (field_key g) (field_key f) passes))))
-    )
+    λ differ same. not_both (eqb (field_key g) (field_key f)) differ (eq-eqb (field_key g) (field_key f) (sym ((right f.name g.name).1 same))),
+    λ differ. not_true (eqb (field_key g) (field_key f)) (λ passes. differ (sym ((right g.name f.name).0 (eqb-true (field_key g) (field_key f) passes)))),
+  )
 
   pub fields_apart : (keys : List ℕ) → keys ≡ map field_key (int_fields class) → AllPairs (λ a b. eqb b a ≡ false) keys ↔ HasDistinctFields class
   fields_apart keys is = subst (λ (ks : List ℕ). AllPairs (λ a b. eqb b a ≡ false) ks ↔ HasDistinctFields class) (sym is)
@@ -41,17 +41,17 @@ module _ (class : ClassRecord) (numbers : List ℕ) (right : NumbersTexts class.
 
   one_spelling : (m n : Member) → (same_key (method_key n) (method_key m) ≡ false) ↔ (IsSpelled class.pool (member_name class.pool m) (member_descriptor class.pool m) n → ⊥)
   one_spelling m n = (
-      λ differ same. not_both (same_key (method_key n) (method_key m)) differ
+    λ differ same. not_both (same_key (method_key n) (method_key m)) differ
         (and_true (eqb (number_at numbers n.name) (number_at numbers m.name)) (eqb (number_at numbers n.descriptor) (number_at numbers m.descriptor))
-          (eq-eqb (number_at numbers n.name) (number_at numbers m.name) ((right n.name m.name).1 same.name_is))
-          (eq-eqb (number_at numbers n.descriptor) (number_at numbers m.descriptor) ((right n.descriptor m.descriptor).1 same.descriptor_is))),
-      λ differ. not_true (same_key (method_key n) (method_key m)) (λ passes.
+        (eq-eqb (number_at numbers n.name) (number_at numbers m.name) ((right n.name m.name).1 same.name_is))
+        (eq-eqb (number_at numbers n.descriptor) (number_at numbers m.descriptor) ((right n.descriptor m.descriptor).1 same.descriptor_is))),
+    λ differ. not_true (same_key (method_key n) (method_key m)) (λ passes.
         let both = both_true (eqb (number_at numbers n.name) (number_at numbers m.name)) (eqb (number_at numbers n.descriptor) (number_at numbers m.descriptor)) passes in
         differ (record {
           name_is = (right n.name m.name).0 (eqb-true (number_at numbers n.name) (number_at numbers m.name) both.0);
-          descriptor_is = (right n.descriptor m.descriptor).0 (eqb-true (number_at numbers n.descriptor) (number_at numbers m.descriptor) both.1)
-        }))
-    )
+          descriptor_is = (right n.descriptor m.descriptor).0 (eqb-true (number_at numbers n.descriptor) (number_at numbers m.descriptor) both.1);
+        })),
+  )
 
   pub methods_apart : (keys : List (ℕ × ℕ)) → keys ≡ map method_key class.methods → AllPairs (λ a b. same_key b a ≡ false) keys ↔ HasDistinctMethods class
   methods_apart keys is = subst (λ (ks : List (ℕ × ℕ)). AllPairs (λ a b. same_key b a ≡ false) ks ↔ HasDistinctMethods class) (sym is)

@@ -1,5 +1,5 @@
 -- The numbers of the texts of a pool.
-use Rattle.std.proofs.Common.{◌≡◌, ◌<◌, ◌≤◌, ◌+◌, ◌↔◌, ◌⊎◌, inl, inr, ℕ, zero, suc, Bool, true, false, not, cond, ◌||◌, List, [], ◌∷◌, ◌++◌, length, get_or, slice_get, None, arith, refl, sym, ap, ◌∙◌, subst, if◌then◌else◌}
+use Rattle.std.proofs.Common.{◌≡◌, ◌<◌, ◌≤◌, ◌+◌, inl, inr, ℕ, zero, suc, Bool, true, false, not, cond, ◌||◌, List, [], ◌∷◌, ◌++◌, length, get_or, arith, refl, sym, ap, ◌∙◌, subst, if◌then◌else◌}
 use Rattle.std.specs.List.{position_or_len, list_any}
 use Rattle.std.proofs.lemmas.Bool.{cases_order}
 use Rattle.std.proofs.lemmas.List.{get_or_default, get_or_past, length-append, get_or_append_left, get_or-append-add}
@@ -69,7 +69,7 @@ number_kept texts more text number is = go (list_any (same_text more) texts)
     go true = is
     go false = record {
       known = any_kept (same_text text) texts (more ∷ []) is.known;
-      place = is.place ∙ sym (first_kept (same_text text) texts (more ∷ []) is.known)
+      place = is.place ∙ sym (first_kept (same_text text) texts (more ∷ []) is.known);
     }
 
 number_new : (texts : List (List ℕ)) (text : List ℕ) (number : ℕ) → number ≡ position_or_len (same_text text) texts → IsNumberOf (with_text texts text) text number
@@ -79,7 +79,7 @@ number_new texts text number is = go (list_any (same_text text) texts) refl
     go true e = record { known = e; place = is }
     go false e = record {
       known = any_last (same_text text) texts text (same_itself text);
-      place = is ∙ sym (first_last (same_text text) texts text e (same_itself text))
+      place = is ∙ sym (first_last (same_text text) texts text e (same_itself text));
     }
 
 -- the numbers are those of the texts of the indices
@@ -92,22 +92,22 @@ module _ (pool : List PoolEntry) (texts : List (List ℕ)) (numbers : List ℕ) 
       AreNumbers pool (with_text texts (text_of pool (length numbers))) (numbers ++ number ∷ [])
   one_more number is k within = elim (below_next k (length numbers) (omega (arith, length-append numbers (number ∷ [])))) [
     | inl less ↦
-      subst (λ (n : ℕ). IsNumberOf (with_text texts (text_of pool (length numbers))) (text_of pool k) n) (sym (get_or_append_left numbers (number ∷ []) 0 k less))
-      (number_kept texts (text_of pool (length numbers)) (text_of pool k) (get_or numbers k 0) (are k less))
+        subst (λ (n : ℕ). IsNumberOf (with_text texts (text_of pool (length numbers))) (text_of pool k) n) (sym (get_or_append_left numbers (number ∷ []) 0 k less))
+        (number_kept texts (text_of pool (length numbers)) (text_of pool k) (get_or numbers k 0) (are k less))
     | inr last ↦
-      let place : k ≡ length numbers + 0 = omega arith in
-      let there : get_or (numbers ++ number ∷ []) k 0 ≡ number = ap (λ n. get_or (numbers ++ number ∷ []) n 0) place ∙ get_or-append-add numbers (number ∷ []) 0 0 in
-      subst (λ (n : ℕ). IsNumberOf (with_text texts (text_of pool (length numbers))) (text_of pool k) n) (sym there)
-      (subst (λ (i : ℕ). IsNumberOf (with_text texts (text_of pool (length numbers))) (text_of pool i) number) (sym last)
-      (number_new texts (text_of pool (length numbers)) number is))
-    ]
+        let place : k ≡ length numbers + 0 = omega arith in
+        let there : get_or (numbers ++ number ∷ []) k 0 ≡ number = ap (λ n. get_or (numbers ++ number ∷ []) n 0) place ∙ get_or-append-add numbers (number ∷ []) 0 0 in
+        subst (λ (n : ℕ). IsNumberOf (with_text texts (text_of pool (length numbers))) (text_of pool k) n) (sym there)
+        (subst (λ (i : ℕ). IsNumberOf (with_text texts (text_of pool (length numbers))) (text_of pool i) number) (sym last)
+        (number_new texts (text_of pool (length numbers)) number is))
+  ]
 
   -- each index has the number of its text, those past the pool that of index 0
   numbered : length numbers ≡ length pool + 1 → (i : ℕ) → IsNumberOf texts (text_of pool i) (number_at numbers i)
   numbered size i = elim (cases_order i (length numbers)) [
     | inl same ↦ past i (omega arith)
     | inr other ↦ elim other [ inl less ↦ inside i less | inr more ↦ past i (omega arith) ]
-    ]
+  ]
     where
       inside : (i : ℕ) → i < length numbers → IsNumberOf texts (text_of pool i) (number_at numbers i)
       inside i within = subst (λ (n : ℕ). IsNumberOf texts (text_of pool i) n) (sym (get_or_default numbers i (get_or numbers 0 0) 0 within)) (are i within)

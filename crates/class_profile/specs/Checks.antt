@@ -2,8 +2,10 @@
 use Rattle.std.specs.Prelude.{◌≡◌, ◌<◌, ℕ, List, Option, Some, None, ⊤}
 use Rattle.relations.specs.Least.{IsLeast}
 use Rattle.class_format.specs.declared.record.ClassRecord.{ClassRecord}
-use Rattle.class_profile.specs.Profile.{AllMeet, HasFault, rank, IsFaultOf}
+use Rattle.class_profile.specs.Members.{HasOneMain}
+use Rattle.class_profile.specs.Profile.{AllMeet, HasFault, rank}
 use Rattle.class_profile.specs.declared.refusal.ClassKind.{ClassKind}
+use Rattle.class_profile.specs.declared.refusal.ClassKind.TheVariants.{NoMain}
 use Rattle.class_profile.specs.declared.refusal.ProfileRefusal.{ProfileRefusal}
 use Rattle.class_profile.specs.declared.refusal.ProfileRefusal.TheVariants.{Refused, Memory}
 
@@ -16,7 +18,13 @@ IsFirstWith kind classes None = AllMeet kind classes
 abbrev pub IsOwn : ClassKind → Type 0
 IsOwn kind = 2 < rank kind
 
--- the refusal is that of the first fault of this kind
-abbrev pub IsRefusedAs : ClassKind → List ClassRecord → ProfileRefusal → Type 0
-IsRefusedAs kind classes (Refused other class) = (other ≡ kind) × IsFaultOf kind classes class
-IsRefusedAs kind classes Memory = ⊤
+-- the refusal names this kind and the first class with its fault
+abbrev pub IsBreach : ClassKind → List ClassRecord → ProfileRefusal → Type 0
+IsBreach kind classes (Refused other (Some place)) = (other ≡ kind) × IsLeast (HasFault kind classes) place
+IsBreach kind classes (Refused other None) = ⊥
+IsBreach kind classes Memory = ⊤
+
+-- the refusal is NoMain, and there isn't one main
+pub record IsMainless (classes : List ClassRecord) (refusal : ProfileRefusal) : Type 0 where
+  pub is : refusal ≡ Refused NoMain None
+  pub none : HasOneMain classes → ⊥

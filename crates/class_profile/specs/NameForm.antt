@@ -1,9 +1,8 @@
 -- What is asked of the names of a class and its members (docs/PROFILE.md, "Classes of the profile").
-use Rattle.std.specs.Prelude.{◌≡◌, ◌≢◌, true, false, ℕ, List, All, AllPairs, codes, filter, nat_eq}
+use Rattle.std.specs.Prelude.{◌≡◌, ◌≢◌, true, false, List, All, AllPairs, codes, filter, nat_eq}
 use Rattle.std.specs.List.{starts_with}
 use Rattle.class_format.specs.declared.record.ClassRecord.{ClassRecord}
 use Rattle.class_format.specs.declared.record.Member.{Member}
-use Rattle.class_format.specs.declared.record.PoolEntry.{PoolEntry}
 use Rattle.class_names.specs.Names.{name_of}
 use Rattle.class_profile.specs.Members.{member_name, member_descriptor, is_int_field, IsSpelled}
 use Rattle.program.specs.Names.{IsName}

@@ -1,12 +1,12 @@
 -- What is asked of the classes of threads (docs/PROFILE.md, "Classes of the profile").
-use Rattle.std.specs.Prelude.{◌≡◌, ◌+◌, ◌*◌, ◌⊎◌, ℕ, Bool, true, false, List, [], ◌∷◌, All, Any, Option, Some, None, IsTrue, codes, count_by}
+use Rattle.std.specs.Prelude.{◌≡◌, ◌+◌, ◌*◌, ◌⊎◌, ℕ, Bool, true, false, List, [], ◌∷◌, All, Any, Option, Some, None, codes, count_by}
 use Rattle.class_format.specs.declared.record.Attribute.{Attribute, out-Attribute}
 use Rattle.class_format.specs.declared.record.Attribute.TheOpen.{Attribute-F, Code, Other}
 use Rattle.class_format.specs.declared.record.ClassRecord.{ClassRecord}
 use Rattle.class_format.specs.declared.record.CodeBody.{CodeBody}
 use Rattle.class_format.specs.declared.record.Member.{Member}
 use Rattle.class_format.specs.declared.record.PoolEntry.{PoolEntry}
-use Rattle.class_names.specs.Names.{has_flag, same_text, text_of, class_name_of, Reference, method_at, is_reference}
+use Rattle.class_names.specs.Names.{has_flag, same_text, class_name_of, Reference, method_at, is_reference}
 use Rattle.class_profile.specs.Members.{static_flag, synchronized_flag, member_name, IsSpelled, HasCode}
 
 -- ---- Classes by their superclass

@@ -3,8 +3,9 @@
 ghost use Rattle.std.specs.Prelude.{◌≡◌, ◌↔◌, ◌≤◌, All, Err, IfOk, IfErr, OnOk, OnErr, IsTrue, MatchOption, length, take, slice_get, Some};
 ghost use Rattle.relations.specs.Least.{IsLeast};
 ghost use Rattle.class_format.specs.ClassText.{IsValid};
-ghost use Rattle.class_profile.specs.Profile.{IsNew, Meets, AllMeet, HasFault, IsFreeOf, IsOfProfile, IsFaultOf, IsRefusedFor};
-ghost use Rattle.class_profile.specs.Checks.{IsFirstWith, IsRefusedAs, IsOwn};
+ghost use Rattle.class_profile.specs.Members.{HasOneMain};
+ghost use Rattle.class_profile.specs.Profile.{Meets, AllMeet, IsOfProfile, IsRefusedFor};
+ghost use Rattle.class_profile.specs.Checks.{IsFirstWith, IsOwn, IsBreach, IsMainless};
 
 use crate::main_method::main_of;
 use crate::members::{has_no_class_init, has_plain_types, has_static_fields};
@@ -67,4 +68,58 @@ fn first_breach(
         }
     }
     Ok(None)
+}
+
+/// That no class has the name of an earlier one.
+fn check_names(alloc: Global, classes: &[ClassRecord]) -> Result<(), ProfileRefusal>
+    requires { length classes.now ≤ 65535 }
+    ensures ok { OnOk result (AllMeet ClassKind.DuplicateClass classes.now) }
+    ensures refused { IfErr result (λ refusal. IsBreach ClassKind.DuplicateClass classes.now refusal) }
+{
+    match first_duplicate(alloc, classes)? {
+        Some(place) => Err(ProfileRefusal::Refused(ClassKind::DuplicateClass, Some(place))),
+        None => Ok(()),
+    }
+}
+
+/// That there is one main.
+fn check_main(classes: &[ClassRecord]) -> Result<(), ProfileRefusal>
+    ensures ok { OnOk result (HasOneMain classes.now) }
+    ensures refused { IfErr result (λ refusal. IsMainless classes.now refusal) }
+{
+    match main_of(classes) {
+        Some(_) => Ok(()),
+        None => Err(ProfileRefusal::Refused(ClassKind::NoMain, None)),
+    }
+}
+
+/// That all classes meet the rule of a kind that looks at each class alone.
+fn check_rule(alloc: Global, kind: ClassKind, classes: &[ClassRecord]) -> Result<(), ProfileRefusal>
+    requires own { IsOwn kind }
+    requires valid { All IsValid classes.now }
+    requires few { length classes.now ≤ 65535 }
+    ensures ok { OnOk result (AllMeet kind classes.now) }
+    ensures refused { IfErr result (λ refusal. IsBreach kind classes.now refusal) }
+{
+    match first_breach(alloc, kind, classes)? {
+        Some(place) => Err(ProfileRefusal::Refused(kind, Some(place))),
+        None => Ok(()),
+    }
+}
+
+/// Whether the classes are of the profile: the first kind that has a fault refuses, with the first class that has it.
+pub fn check_classes(alloc: Global, classes: &[ClassRecord]) -> Result<(), ProfileRefusal>
+    requires valid { All IsValid classes.now }
+    requires few { length classes.now ≤ 65535 }
+    ensures ok { OnOk result (IsOfProfile classes.now) }
+    ensures refused { IfErr result (λ refusal. IsRefusedFor classes.now refusal) }
+{
+    check_names(alloc, classes)?;
+    check_main(classes)?;
+    check_rule(alloc, ClassKind::ClassInit, classes)?;
+    check_rule(alloc, ClassKind::InstanceField, classes)?;
+    check_rule(alloc, ClassKind::FieldType, classes)?;
+    check_rule(alloc, ClassKind::Constructor, classes)?;
+    check_rule(alloc, ClassKind::ThreadClass, classes)?;
+    check_rule(alloc, ClassKind::NameForm, classes)
 }

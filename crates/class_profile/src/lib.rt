@@ -10,5 +10,6 @@ mod refusal;
 mod text_set;
 mod threads;
 
+pub use check::check_classes;
 pub use main_method::{MainPlace, main_of};
 pub use refusal::{ClassKind, ProfileRefusal};

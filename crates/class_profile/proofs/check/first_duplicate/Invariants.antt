@@ -8,5 +8,5 @@ use Rattle.class_profile.proofs.check.first_duplicate.Given as goal
 abbrev pub invariant-loop-place : goal.invariant-loop-place
 invariant-loop-place l = record {
   names : l.names ≡ map name_of (take l.place l.classes);
-  met : MetBefore DuplicateClass l.classes l.place
+  met : MetBefore DuplicateClass l.classes l.place;
 }

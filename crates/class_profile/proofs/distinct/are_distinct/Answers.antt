@@ -1,5 +1,5 @@
 -- A key that is not new is equal to an earlier one.
-use Rattle.std.proofs.Common.{◌≡◌, ◌++◌, [], ◌∷◌, Bool, true, false, not, List, take, refl, sym, ap, ◌∙◌, subst, if◌then◌else◌, IsTrue}
+use Rattle.std.proofs.Common.{◌≡◌, ◌++◌, [], ◌∷◌, Bool, true, false, not, List, take, refl, sym, ap, ◌∙◌, subst, if◌then◌else◌}
 use Rattle.std.specs.List.{list_any}
 use Rattle.class_profile.proofs.Pairs.{Apart, apart_with, not_apart}
 use Rattle.class_profile.proofs.Places.{take_with}
@@ -22,9 +22,11 @@ returns-in-Ok-default-false-clause-told g c =
     let w = c.in-Ok-default-false in
     let eq = g.K.PartialEq.eq in
     let ks = c.args.keys.now in
-    let known = found _ w.field-0-1 w.ensures.added w.field-0-1-test in
-    (λ passes. cc, λ apart. absurd (not_apart eq ks c.loop-key.key-index c.key-item.result c.loop-key-test.true c.key-item.is
-      (subst (λ (seen : List g.row.K.Denot). list_any (eq c.key-item.result) seen ≡ true) c.loop-key.invariant.seen known) apart))
+    let known = found _ w.field-0-1 w.ensures.added w.field-0-1-test in (
+      λ passes. cc,
+      λ apart. absurd (not_apart eq ks c.loop-key.key-index c.key-item.result c.loop-key-test.true c.key-item.is
+          (subst (λ (seen : List g.row.K.Denot). list_any (eq c.key-item.result) seen ≡ true) c.loop-key.invariant.seen known) apart),
+    )
 
 pub loop-key-preserved : goal.loop-key-preserved
 loop-key-preserved g c =
@@ -39,5 +41,5 @@ loop-key-preserved g c =
     record {
       seen = w.ensures.keys ∙ longer _ c.loop-key.seen.keys y fresh ∙ ap (λ (seen : List g.row.K.Denot). seen ++ y ∷ []) so_far ∙ sym next;
       apart = subst (λ (seen : List g.row.K.Denot). Apart eq seen) (sym next)
-        (apart_with eq y (take i ks) (subst (λ (seen : List g.row.K.Denot). list_any (eq y) seen ≡ false) so_far fresh) c.loop-key.invariant.apart)
+          (apart_with eq y (take i ks) (subst (λ (seen : List g.row.K.Denot). list_any (eq y) seen ≡ false) so_far fresh) c.loop-key.invariant.apart);
     }

@@ -28,12 +28,12 @@ loop-method_place-preserved c =
     let here = stands c.args.classes.now i class c.loop-class_place-test.true c.index-classes-class_place.is in
     let there = method_there class.methods c.as_slice-method-items.result.now j m c.as_slice-method-items.ensures c.loop-method_place-test.true c.method-item.is in
     elim c.if-is_main.branch [
-    | then-is_main+else-is_some w ↦
-      first_main c.args.classes.now i class here j m there c.loop-method_place.found c.if-is_main.found (sym w.is_some.ensures ∙ w.if-is_some.false) w.found-is
-      (told_yes c.is_main.result w.if-is_main.true c.is_main.ensures) c.loop-method_place.invariant
-    | else-is_main w ↦
-      subst (OnlyBefore c.args.classes.now i (j + 1)) (sym w.found-is)
-      (pass_method c.args.classes.now i class here j m there c.loop-method_place.found (told_no c.is_main.result w.if-is_main.false c.is_main.ensures) c.loop-method_place.invariant)
+      | then-is_main+else-is_some w ↦
+          first_main c.args.classes.now i class here j m there c.loop-method_place.found c.if-is_main.found (sym w.is_some.ensures ∙ w.if-is_some.false) w.found-is
+          (told_yes c.is_main.result w.if-is_main.true c.is_main.ensures) c.loop-method_place.invariant
+      | else-is_main w ↦
+          subst (OnlyBefore c.args.classes.now i (j + 1)) (sym w.found-is)
+          (pass_method c.args.classes.now i class here j m there c.loop-method_place.found (told_no c.is_main.result w.if-is_main.false c.is_main.ensures) c.loop-method_place.invariant)
     ]
 
 pub loop-class_place-preserved : goal.loop-class_place-preserved

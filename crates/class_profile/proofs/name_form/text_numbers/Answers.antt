@@ -19,7 +19,7 @@ loop-index-preserved c =
     record {
       size = ap length pushed ∙ omega (arith, length-append numbers (number ∷ []), c.loop-index.invariant.size);
       numbers = subst (λ (ns : List ℕ). AreNumbers pool c.add.new.self ns) (sym pushed)
-        (subst (λ (ts : List (List ℕ)). AreNumbers pool ts (numbers ++ number ∷ [])) (sym set) (one_more pool texts numbers c.loop-index.invariant.numbers number place))
+          (subst (λ (ts : List (List ℕ)). AreNumbers pool ts (numbers ++ number ∷ [])) (sym set) (one_more pool texts numbers c.loop-index.invariant.numbers number place));
     }
 
 pub returns-clause-numbers : goal.returns-clause-numbers

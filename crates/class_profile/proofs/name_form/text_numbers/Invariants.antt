@@ -6,5 +6,5 @@ use Rattle.class_profile.proofs.name_form.text_numbers.Given as goal
 abbrev pub invariant-loop-index : goal.invariant-loop-index
 invariant-loop-index l = record {
   size : length l.numbers.items ≡ l.index;
-  numbers : AreNumbers l.pool l.texts l.numbers.items
+  numbers : AreNumbers l.pool l.texts l.numbers.items;
 }
