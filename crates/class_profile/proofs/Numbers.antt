@@ -88,18 +88,16 @@ AreNumbers pool texts numbers = (k : ℕ) → k < length numbers → IsNumberOf 
 
 module _ (pool : List PoolEntry) (texts : List (List ℕ)) (numbers : List ℕ) (are : AreNumbers pool texts numbers) where
   -- one more index
-  pub one_more : (number : ℕ) → number ≡ position_or_len (same_text (text_of pool (length numbers))) texts →
-      AreNumbers pool (with_text texts (text_of pool (length numbers))) (numbers ++ number ∷ [])
-  one_more number is k within = elim (below_next k (length numbers) (omega (arith, length-append numbers (number ∷ [])))) [
+  pub one_more : (text : List ℕ) → text ≡ text_of pool (length numbers) → AreNumbers pool (with_text texts text) (numbers ++ position_or_len (same_text text) texts ∷ [])
+  one_more text is k within = elim (below_next k (length numbers) (omega (arith, length-append numbers (position_or_len (same_text text) texts ∷ [])))) [
     | inl less ↦
-        subst (λ (n : ℕ). IsNumberOf (with_text texts (text_of pool (length numbers))) (text_of pool k) n) (sym (get_or_append_left numbers (number ∷ []) 0 k less))
-        (number_kept texts (text_of pool (length numbers)) (text_of pool k) (get_or numbers k 0) (are k less))
+        subst (λ (n : ℕ). IsNumberOf (with_text texts text) (text_of pool k) n) (sym (get_or_append_left numbers (position_or_len (same_text text) texts ∷ []) 0 k less))
+        (number_kept texts text (text_of pool k) (get_or numbers k 0) (are k less))
     | inr last ↦
         let place : k ≡ length numbers + 0 = omega arith in
-        let there : get_or (numbers ++ number ∷ []) k 0 ≡ number = ap (λ n. get_or (numbers ++ number ∷ []) n 0) place ∙ get_or-append-add numbers (number ∷ []) 0 0 in
-        subst (λ (n : ℕ). IsNumberOf (with_text texts (text_of pool (length numbers))) (text_of pool k) n) (sym there)
-        (subst (λ (i : ℕ). IsNumberOf (with_text texts (text_of pool (length numbers))) (text_of pool i) number) (sym last)
-        (number_new texts (text_of pool (length numbers)) number is))
+        let there : get_or (numbers ++ position_or_len (same_text text) texts ∷ []) k 0 ≡ position_or_len (same_text text) texts = ap (λ n. get_or (numbers ++ position_or_len (same_text text) texts ∷ []) n 0) place ∙ get_or-append-add numbers (position_or_len (same_text text) texts ∷ []) 0 0 in
+        subst (λ (n : ℕ). IsNumberOf (with_text texts text) (text_of pool k) n) (sym there)
+        (subst (λ (t : List ℕ). IsNumberOf (with_text texts text) t (position_or_len (same_text text) texts)) (is ∙ ap (text_of pool) (sym last)) (number_new texts text (position_or_len (same_text text) texts) refl))
   ]
 
   -- each index has the number of its text, those past the pool that of index 0

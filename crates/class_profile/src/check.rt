@@ -2,7 +2,6 @@
 
 ghost use Rattle.std.specs.Prelude.{◌≡◌, ◌↔◌, ◌≤◌, All, Err, IfOk, IfErr, OnOk, OnErr, IsTrue, MatchOption, length, take, slice_get, Some};
 ghost use Rattle.relations.specs.Least.{IsLeast};
-ghost use Rattle.class_format.specs.ClassText.{IsValid};
 ghost use Rattle.class_profile.specs.Members.{HasOneMain};
 ghost use Rattle.class_profile.specs.Profile.{Meets, AllMeet, IsOfProfile, IsRefusedFor};
 ghost use Rattle.class_profile.specs.Checks.{IsFirstWith, IsOwn, IsBreach, IsMainless};
@@ -34,8 +33,7 @@ fn first_duplicate(alloc: Global, classes: &[ClassRecord]) -> Result<Option<u32>
 
 /// Whether a class meets the rule of a kind that looks at the class alone.
 fn meets(alloc: Global, kind: ClassKind, class: &ClassRecord) -> Result<bool, ProfileRefusal>
-    requires own { IsOwn kind }
-    requires valid { IsValid class.now }
+    requires { IsOwn kind }
     ensures told { IfOk result (λ met. (before : _) → IsTrue met ↔ Meets kind before class.now) }
     ensures memory { OnErr result (result ≡ Err ProfileRefusal.Memory) }
 {
@@ -57,7 +55,6 @@ fn first_breach(
     classes: &[ClassRecord],
 ) -> Result<Option<u32>, ProfileRefusal>
     requires own { IsOwn kind }
-    requires valid { All IsValid classes.now }
     requires few { length classes.now ≤ 65535 }
     ensures found { IfOk result (λ place. IsFirstWith kind classes.now place) }
     ensures memory { OnErr result (result ≡ Err ProfileRefusal.Memory) }
@@ -96,7 +93,6 @@ fn check_main(classes: &[ClassRecord]) -> Result<(), ProfileRefusal>
 /// That all classes meet the rule of a kind that looks at each class alone.
 fn check_rule(alloc: Global, kind: ClassKind, classes: &[ClassRecord]) -> Result<(), ProfileRefusal>
     requires own { IsOwn kind }
-    requires valid { All IsValid classes.now }
     requires few { length classes.now ≤ 65535 }
     ensures ok { OnOk result (AllMeet kind classes.now) }
     ensures refused { IfErr result (λ refusal. IsBreach kind classes.now refusal) }
@@ -109,8 +105,7 @@ fn check_rule(alloc: Global, kind: ClassKind, classes: &[ClassRecord]) -> Result
 
 /// Whether the classes are of the profile: the first kind that has a fault refuses, with the first class that has it.
 pub fn check_classes(alloc: Global, classes: &[ClassRecord]) -> Result<(), ProfileRefusal>
-    requires valid { All IsValid classes.now }
-    requires few { length classes.now ≤ 65535 }
+    requires { length classes.now ≤ 65535 }
     ensures ok { OnOk result (IsOfProfile classes.now) }
     ensures refused { IfErr result (λ refusal. IsRefusedFor classes.now refusal) }
 {

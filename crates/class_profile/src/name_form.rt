@@ -1,18 +1,19 @@
 //! What is asked of names.
 
-ghost use Rattle.std.specs.Prelude.{◌≡◌, ◌↔◌, ◌+◌, ◌<◌, ◌^◌, Err, IfOk, OnErr, IsTrue, length, map, filter};
-ghost use Rattle.class_format.specs.ClassText.{IsValid};
+ghost use Rattle.std.specs.Prelude.{◌≡◌, ◌↔◌, ◌++◌, [], ◌∷◌, Err, IfOk, OnOk, OnErr, IsTrue, Some, map};
+ghost use Rattle.std.specs.List.{position_or_len};
+ghost use Rattle.class_names.specs.Names.{same_text, text_in};
 ghost use Rattle.class_profile.specs.Members.{is_int_field};
 ghost use Rattle.class_profile.specs.NameForm.{int_fields, HasWritableFields, HasDistinctFields, HasDistinctMethods, HasPlainNames};
-ghost use Rattle.class_profile.specs.Texts.{number_at, NumbersTexts};
+ghost use Rattle.class_profile.specs.Texts.{with_text, number_at, NumbersTexts};
 ghost use Rattle.program.specs.Names.{IsNameByte, IsName};
 
 use crate::distinct::are_distinct;
 use crate::members::{is_int_field, member_name};
 use crate::refusal::ProfileRefusal;
 use crate::text_set::TextSet;
-use class_format::{ClassRecord, PoolEntries};
-use class_names::{name_of, text_of};
+use class_format::{ClassRecord, PoolEntries, PoolEntry};
+use class_names::name_of;
 use std::alloc::Global;
 
 /// The most bytes of a name that can be written.
@@ -41,20 +42,42 @@ fn has_writable_fields(class: &ClassRecord) -> bool
     })
 }
 
+/// The bytes of an entry, where it is a text.
+fn text_in(entry: &PoolEntry) -> &[u8]
+    ensures { result.now ≡ text_in (Some entry.now) }
+{
+    match entry {
+        PoolEntry::Utf8(bytes) => bytes.as_slice(),
+        _ => b"".as_slice(),
+    }
+}
+
+/// Adds the number of a text, which may be new.
+fn push_number<'a>(
+    texts: &mut TextSet<'a>,
+    numbers: &mut Vec<usize>,
+    text: &'a [u8],
+) -> Result<(), ProfileRefusal>
+    ensures texts { OnOk result (texts.new ≡ with_text texts.old text.now) }
+    ensures numbers { OnOk result (numbers.new.items ≡ numbers.old.items ++ position_or_len (same_text text.now) texts.old ∷ []) }
+    ensures memory { OnErr result (result ≡ Err ProfileRefusal.Memory) }
+{
+    let added = texts.add(text)?;
+    numbers
+        .push(added.number)
+        .map_err(|_| ProfileRefusal::Memory)
+}
+
 /// Numbers for the texts that the indices of a pool name, from index 0 on: the same number for the same text.
 fn text_numbers(alloc: Global, pool: &PoolEntries) -> Result<Vec<usize>, ProfileRefusal>
-    requires { length pool.now + 1 < 2 ^ 16 }
     ensures numbers { IfOk result (λ numbers. NumbersTexts pool.now numbers.items) }
     ensures memory { OnErr result (result ≡ Err ProfileRefusal.Memory) }
 {
     let mut texts = TextSet::new(alloc);
     let mut numbers = Vec::new(alloc);
-    let count = pool.len() as u16 + 1;
-    for index in 0..count {
-        let added = texts.add(text_of(pool, index))?;
-        numbers
-            .push(added.number)
-            .map_err(|_| ProfileRefusal::Memory)?;
+    push_number(&mut texts, &mut numbers, b"")?;
+    for entry in pool.as_slice() {
+        push_number(&mut texts, &mut numbers, text_in(entry))?;
     }
     Ok(numbers)
 }
@@ -138,7 +161,6 @@ fn has_distinct_methods(
 
 /// Whether the class is none of the library's, its name and those of its variables can be written, and no member stands twice.
 pub fn has_plain_names(alloc: Global, class: &ClassRecord) -> Result<bool, ProfileRefusal>
-    requires { IsValid class.now }
     ensures told { IfOk result (λ plain. IsTrue plain ↔ HasPlainNames class.now) }
     ensures memory { OnErr result (result ≡ Err ProfileRefusal.Memory) }
 {
