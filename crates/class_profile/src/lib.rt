@@ -13,3 +13,6 @@ mod threads;
 pub use check::check_classes;
 pub use main_method::{MainPlace, main_of};
 pub use refusal::{ClassKind, ProfileRefusal};
+
+#[cfg(test)]
+mod tests;

@@ -24,12 +24,12 @@ loop-entry-preserved c =
     let text = c.text_in.result.now in
     let told = c.in_ok-push_number-2.ensures in
     let is : text ≡ text_of pool (length numbers) = c.text_in.ensures ∙ text_there pool c.as_slice-entry-items.result.now c.loop-entry.entry-index (length numbers) c.entry-item.result
-      c.as_slice-entry-items.ensures c.loop-entry-test.true c.entry-item.is c.loop-entry.invariant.size in
+    c.as_slice-entry-items.ensures c.loop-entry-test.true c.entry-item.is c.loop-entry.invariant.size in
     record {
       size = ap length told.numbers ∙ omega (arith, length-append numbers (position_or_len (same_text text) texts ∷ []), c.loop-entry.invariant.size);
       numbers = subst (λ (ns : List ℕ). AreNumbers pool c.push_number-in-loop-entry.new.texts ns) (sym told.numbers)
-        (subst (λ (ts : List (List ℕ)). AreNumbers pool ts (numbers ++ position_or_len (same_text text) texts ∷ [])) (sym told.texts)
-        (one_more pool texts numbers c.loop-entry.invariant.numbers text is))
+          (subst (λ (ts : List (List ℕ)). AreNumbers pool ts (numbers ++ position_or_len (same_text text) texts ∷ [])) (sym told.texts)
+          (one_more pool texts numbers c.loop-entry.invariant.numbers text is));
     }
 
 pub returns-clause-numbers : goal.returns-clause-numbers
