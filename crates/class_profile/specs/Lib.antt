@@ -4,3 +4,4 @@ pub mod NameForm
 pub mod Profile
 pub mod Texts
 pub mod Checks
+pub mod Laws

@@ -60,12 +60,21 @@ IsFreeOf kind classes = AllMeet kind classes
 abbrev pub IsOfProfile : List ClassRecord → Type 0
 IsOfProfile classes = (kind : ClassKind) → IsFreeOf kind classes
 
--- the classes have a fault of this kind, and this is the first class with it; where main is missing no class has it
+-- the first class with the fault of a kind
+pub record IsFirstClass (kind : ClassKind) (classes : List ClassRecord) (class : Option ℕ) : Type 0 where
+  pub place : ℕ
+  pub class_is : class ≡ Some place
+  pub first : IsLeast (HasFault kind classes) place
+
+-- there isn't exactly one main, which is the fault of no class
+pub record IsWithoutMain (classes : List ClassRecord) (class : Option ℕ) : Type 0 where
+  pub no_class : class ≡ None
+  pub no_main : HasOneMain classes → ⊥
+
+-- the classes have a fault of this kind, and this is the class that is named
 abbrev pub IsFaultOf : ClassKind → List ClassRecord → Option ℕ → Type 0
-IsFaultOf NoMain classes None = HasOneMain classes → ⊥
-IsFaultOf NoMain classes (Some place) = ⊥
-IsFaultOf kind classes None = ⊥
-IsFaultOf kind classes (Some place) = IsLeast (HasFault kind classes) place
+IsFaultOf NoMain classes class = IsWithoutMain classes class
+IsFaultOf kind classes class = IsFirstClass kind classes class
 
 -- the first kind with a fault, and the first class with it
 pub record IsFirstFault (classes : List ClassRecord) (kind : ClassKind) (class : Option ℕ) : Type 0 where

@@ -67,6 +67,16 @@ fn first_breach(
     Ok(None)
 }
 
+/// The refusal of a class.
+fn refusal(kind: ClassKind, place: u32) -> ProfileRefusal
+    ensures { result ≡ ProfileRefusal.Refused kind (Some place) }
+{
+    ProfileRefusal::Refused {
+        kind,
+        class: Some(place),
+    }
+}
+
 /// That no class has the name of an earlier one.
 fn check_names(alloc: Global, classes: &[ClassRecord]) -> Result<(), ProfileRefusal>
     requires { length classes.now ≤ 65535 }
@@ -74,7 +84,7 @@ fn check_names(alloc: Global, classes: &[ClassRecord]) -> Result<(), ProfileRefu
     ensures refused { IfErr result (λ refusal. IsBreach ClassKind.DuplicateClass classes.now refusal) }
 {
     match first_duplicate(alloc, classes)? {
-        Some(place) => Err(ProfileRefusal::Refused(ClassKind::DuplicateClass, Some(place))),
+        Some(place) => Err(refusal(ClassKind::DuplicateClass, place)),
         None => Ok(()),
     }
 }
@@ -86,7 +96,10 @@ fn check_main(classes: &[ClassRecord]) -> Result<(), ProfileRefusal>
 {
     match main_of(classes) {
         Some(_) => Ok(()),
-        None => Err(ProfileRefusal::Refused(ClassKind::NoMain, None)),
+        None => Err(ProfileRefusal::Refused {
+            kind: ClassKind::NoMain,
+            class: None,
+        }),
     }
 }
 
@@ -98,7 +111,7 @@ fn check_rule(alloc: Global, kind: ClassKind, classes: &[ClassRecord]) -> Result
     ensures refused { IfErr result (λ refusal. IsBreach kind classes.now refusal) }
 {
     match first_breach(alloc, kind, classes)? {
-        Some(place) => Err(ProfileRefusal::Refused(kind, Some(place))),
+        Some(place) => Err(refusal(kind, place)),
         None => Ok(()),
     }
 }

@@ -3,6 +3,7 @@
 
 mod check;
 mod distinct;
+mod laws;
 mod main_method;
 mod members;
 mod name_form;
@@ -11,6 +12,7 @@ mod text_set;
 mod threads;
 
 pub use check::check_classes;
+pub use laws::{no_fault_of_profile, one_first_fault};
 pub use main_method::{MainPlace, main_of};
 pub use refusal::{ClassKind, ProfileRefusal};
 

@@ -26,7 +26,7 @@ pub enum ClassKind {
 pub enum ProfileRefusal {
     /// The first kind with a fault, and the place of the first class with it, from 0. NoMain has no class.
     #[error("the classes are not of the profile")]
-    Refused(ClassKind, Option<u32>),
+    Refused { kind: ClassKind, class: Option<u32> },
     /// There is not enough memory.
     #[error("not enough memory")]
     Memory,

@@ -170,7 +170,7 @@ fn refusal_of(
     }
     match check_classes(alloc, &records) {
         Ok(()) => Ok(None),
-        Err(ProfileRefusal::Refused(kind, class)) => Ok(Some((kind, class))),
+        Err(ProfileRefusal::Refused { kind, class }) => Ok(Some((kind, class))),
         Err(ProfileRefusal::Memory) => Err(FormatRefusal::Memory),
     }
 }

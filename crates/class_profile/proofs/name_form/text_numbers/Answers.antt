@@ -5,7 +5,6 @@ use Rattle.class_format.specs.declared.record.PoolEntry.{PoolEntry}
 use Rattle.class_names.specs.Names.{text_of, text_in, same_text}
 use Rattle.class_profile.proofs.Numbers.{AreNumbers, one_more, numbers_texts}
 use Rattle.class_profile.proofs.Places.{stands}
-use Rattle.class_profile.specs.Texts.{with_text}
 use Rattle.class_profile.proofs.name_form.text_numbers.Goals as goal
 
 -- the text of an entry is that of its index
