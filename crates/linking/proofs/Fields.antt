@@ -7,7 +7,7 @@ use Rattle.std.proofs.lemmas.List.Folds.{list_any_at, Any-from_list_any}
 use Rattle.std.proofs.lemmas.List.Quantifiers.{all_pairs_push}
 use Rattle.class_format.specs.declared.record.Member.{Member}
 use Rattle.class_format.specs.declared.record.PoolEntry.{PoolEntry}
-use Rattle.linking.specs.Names.{same_text, text_of}
+use Rattle.class_names.specs.Names.{same_text, text_of}
 use Rattle.linking.proofs.Texts.{same_is, same_of}
 use Rattle.std.proofs.lemmas.List.Elements.{All-map}
 use Rattle.program.specs.Names.{IsName}

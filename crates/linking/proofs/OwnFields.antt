@@ -3,7 +3,7 @@ use Rattle.std.proofs.Common.{◌≡◌, ℕ, Bool, true, false, ◌&&◌, ◌||
 use Rattle.class_format.specs.declared.record.ClassRecord.{ClassRecord}
 use Rattle.class_format.specs.declared.record.Member.{Member}
 use Rattle.class_format.specs.declared.record.PoolEntry.{PoolEntry}
-use Rattle.linking.specs.Names.{same_text, has_flag, text_of, Reference}
+use Rattle.class_names.specs.Names.{same_text, has_flag, text_of, Reference}
 use Rattle.linking.specs.Symbols.{static_flag, is_named, is_int_field, field_or_nothing, own_field}
 use Rattle.linking.specs.StraightClass.{IsPlainField}
 use Rattle.linking.specs.Tables.{names_of_fields}

@@ -3,7 +3,7 @@ use Rattle.std.proofs.Common.{◌≡◌, ◌≢◌, ℕ, true, false, List, sym,
 use Rattle.std.proofs.lemmas.Bool.{false≢true}
 use Rattle.std.proofs.lemmas.Cmp.{nat_list_eq_equiv}
 use Rattle.std.proofs.lemmas.Slice.Eq.{bytes_eq-Decides}
-use Rattle.linking.specs.Names.{same_text}
+use Rattle.class_names.specs.Names.{same_text}
 
 pub same_itself : (a : List ℕ) → same_text a a ≡ true
 same_itself a = nat_list_eq_equiv.refl a

@@ -1,4 +1,3 @@
-pub mod Names
 pub mod Symbols
 pub mod Linking
 pub mod StraightClass

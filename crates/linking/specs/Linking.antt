@@ -15,7 +15,7 @@ use Rattle.program.specs.declared.method.Method.{Method}
 use Rattle.program.specs.declared.method.Operand.{Operand}
 use Rattle.program.specs.declared.method.Operand.TheVariants as operand
 use Rattle.program.specs.declared.program.Variable.{Variable}
-use Rattle.linking.specs.Names.{has_flag, text_of, name_of}
+use Rattle.class_names.specs.Names.{has_flag, text_of, name_of}
 use Rattle.linking.specs.Symbols.{static_flag, symbol_of}
 use Rattle.linking.specs.declared.symbol.Symbol.{Symbol}
 use Rattle.linking.specs.declared.symbol.Symbol.TheVariants.{Int, Field, Out, Print, Nothing}

@@ -15,7 +15,7 @@ use Rattle.opcodes.specs.declared.instruction.Instr.TheVariants.{Return}
 use Rattle.opcodes.specs.declared.listed.Listed.{Listed}
 use Rattle.program.specs.Names.{IsName}
 use Rattle.program.specs.Straight.{IsStraightFrom}
-use Rattle.linking.specs.Names.{has_flag, text_of, class_name_of, name_of}
+use Rattle.class_names.specs.Names.{has_flag, text_of, class_name_of, name_of}
 use Rattle.linking.specs.Symbols.{static_flag, symbol_of}
 use Rattle.linking.specs.Linking.{synchronized_flag, volatile_flag, variables_of, operands_of}
 use Rattle.linking.specs.declared.symbol.Symbol.TheVariants.{Nothing}

@@ -5,7 +5,7 @@ use Rattle.opcodes.specs.declared.instruction.Instr.TheVariants.{IconstM1, Icons
 use Rattle.class_format.specs.declared.record.ClassRecord.{ClassRecord}
 use Rattle.class_format.specs.declared.record.Member.{Member}
 use Rattle.class_format.specs.declared.record.PoolEntry.{PoolEntry}
-use Rattle.linking.specs.Names.{same_text, has_flag, text_of, Reference, field_at, method_at, is_system_out, is_println, name_of}
+use Rattle.class_names.specs.Names.{same_text, has_flag, text_of, Reference, field_at, method_at, is_system_out, is_println, name_of}
 use Rattle.linking.specs.declared.symbol.Symbol.{Symbol}
 use Rattle.linking.specs.declared.symbol.Symbol.TheVariants.{Int, Field, Out, Print, Nothing}
 

@@ -14,7 +14,7 @@ use Rattle.program.specs.Straight.{IsStraight}
 use Rattle.program.specs.declared.method.Method.{Method}
 use Rattle.program.specs.declared.method.Operand.{Operand}
 use Rattle.program.specs.declared.program.Variable.{Variable}
-use Rattle.linking.specs.Names.{text_of, has_flag}
+use Rattle.class_names.specs.Names.{text_of, has_flag}
 use Rattle.linking.specs.Symbols.{static_flag}
 use Rattle.linking.specs.Linking.{synchronized_flag, is_variable, number_of, main_frame, IsProgramOf}
 use Rattle.linking.specs.StraightClass.{IsPlainClass, IsPlainField, IsOnlyMain, interface_flag, IsStraightClass, IsToTheEnd}

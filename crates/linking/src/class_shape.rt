@@ -9,12 +9,12 @@ ghost use Rattle.program.specs.Names.{IsName};
 ghost use Rattle.linking.specs.StraightClass.{has_plain_tag, IsPlainClass, IsPlainField, IsOnlyMain, HasPlainNames};
 ghost use Rattle.linking.specs.Tables.{HasStraightShape, IsCodeAlone, HasNoCodeAlone, IsLinkableMain};
 
-use crate::names::{
+use crate::refusal::ProgramRefusal;
+use class_format::{Attribute, Attributes, ClassRecord, CodeBody, Member, PoolEntries, PoolEntry};
+use class_names::{
     FINAL, INTERFACE, STATIC, SYNCHRONIZED, VOLATILE, class_name_of, has_flag, name_of, same_text,
     text_of,
 };
-use crate::refusal::ProgramRefusal;
-use class_format::{Attribute, Attributes, ClassRecord, CodeBody, Member, PoolEntries, PoolEntry};
 use program::Name;
 use std::alloc::Global;
 

@@ -2,13 +2,13 @@
 
 ghost use Rattle.std.specs.Prelude.{◌≡◌, ◌<◌, ◌≤◌, ◌++◌, [], ◌∷◌, All, Err, IfOk, IfSome, OnOk, OnErr, true, not, length, position};
 ghost use Rattle.std.specs.List.{list_any};
-ghost use Rattle.linking.specs.Names.{same_text};
+ghost use Rattle.class_names.specs.Names.{same_text};
 ghost use Rattle.linking.specs.StraightClass.{AreApart};
 ghost use Rattle.linking.specs.Tables.{names_of_fields};
 
-use crate::names::text_of;
 use crate::refusal::ProgramRefusal;
 use class_format::ClassRecord;
+use class_names::text_of;
 use indexmap::IndexSet;
 use std::alloc::Global;
 use std::marker::Model;

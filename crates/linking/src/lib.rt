@@ -6,7 +6,6 @@ mod class_shape;
 mod field_names;
 pub mod laws;
 mod linker;
-mod names;
 mod refusal;
 mod symbol;
 mod symbols;

@@ -1,18 +1,18 @@
 //! What instructions name by the constant pool of their class.
 
 ghost use Rattle.std.specs.Prelude.{◌≡◌, All, Err, IfOk, OnErr, length};
-ghost use Rattle.linking.specs.Names.{field_at, method_at, reference_of, is_system_out};
+ghost use Rattle.class_names.specs.Names.{field_at, method_at, reference_of, is_system_out};
 ghost use Rattle.linking.specs.Symbols.{own_field, field_symbol, call_symbol, symbol_of};
 ghost use Rattle.linking.specs.Linking.{symbols_of};
 ghost use Rattle.linking.specs.Tables.{AreFieldNames, IsWithin};
 
 use crate::field_names::FieldNames;
-use crate::names::{
+use crate::refusal::ProgramRefusal;
+use class_format::{ClassRecord, PoolEntries, PoolEntry, entry_at};
+use class_names::{
     Expected, Reference, class_name_of, descriptor_of, is_reference, member_name_of, name_of,
     same_text,
 };
-use crate::refusal::ProgramRefusal;
-use class_format::{ClassRecord, PoolEntries, PoolEntry, entry_at};
 use opcodes::{Instr, Listing};
 use std::alloc::Global;
 

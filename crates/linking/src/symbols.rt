@@ -2,15 +2,15 @@
 
 ghost use Rattle.std.specs.Prelude.{◌≡◌, ◌<◌, ◌≤◌, ◌^◌, ℕ, All, Err, IfOk, OnErr, length, map, take, count_by, slice_index_or};
 ghost use Rattle.program.specs.Names.{IsName};
-ghost use Rattle.linking.specs.Names.{name_of, text_of};
+ghost use Rattle.class_names.specs.Names.{name_of, text_of};
 ghost use Rattle.linking.specs.Linking.{operand_of, variable_of, variables_from};
 ghost use Rattle.linking.specs.Tables.{IsWithin, MarksVariables, NumbersFields, with_variables};
 ghost use Rattle.linking.specs.declared.symbol.Symbol.{Symbol};
 
-use crate::names::{VOLATILE, has_flag, name_of, text_of};
 use crate::refusal::ProgramRefusal;
 use crate::symbol::Symbol;
 use class_format::{ClassRecord, Member};
+use class_names::{VOLATILE, has_flag, name_of, text_of};
 use program::{Name, Operand, Operands, Program, Variable};
 use std::alloc::Global;
 

@@ -1,7 +1,7 @@
 -- The names of the fields so far can be written.
 use Rattle.std.proofs.Common.{All, take}
 use Rattle.program.specs.Names.{IsName}
-use Rattle.linking.specs.Names.{text_of}
+use Rattle.class_names.specs.Names.{text_of}
 use Rattle.linking.proofs.class_shape.has_plain_names.Given as goal
 
 abbrev pub invariant-loop-field : goal.invariant-loop-field

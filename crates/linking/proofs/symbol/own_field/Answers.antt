@@ -1,6 +1,6 @@
 -- All fields are plain ints, so that the name alone tells which one it is.
 use Rattle.std.proofs.Common.{Some, None, ◌≤◌, List, ℕ, length, All, subst, codes, position, sym, ap, ◌∙◌}
-use Rattle.linking.specs.Names.{same_text, reference_of}
+use Rattle.class_names.specs.Names.{same_text, reference_of}
 use Rattle.linking.proofs.Fields.{short_names}
 use Rattle.linking.proofs.OwnFields.{another_descriptor, found_by_name}
 use Rattle.linking.proofs.symbol.own_field.Goals as goal

@@ -1,7 +1,7 @@
 -- The test over the keys is that over the names.
 use Rattle.std.proofs.Common.{ℕ, not, List, sym, ap, ◌∙◌}
 use Rattle.std.specs.List.{list_any}
-use Rattle.linking.specs.Names.{same_text}
+use Rattle.class_names.specs.Names.{same_text}
 use Rattle.linking.proofs.Positions.{any_map}
 use Rattle.linking.proofs.field_names.FieldNames.add.Goals as goal
 use Rattle.linking.proofs.field_names.FieldNames.add.Goals.{in-Ok, in-Err}

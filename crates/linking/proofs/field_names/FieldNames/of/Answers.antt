@@ -2,7 +2,7 @@
 use Rattle.std.proofs.Common.{◌≡◌, ◌++◌, [], ◌∷◌, ℕ, Bool, true, false, not, List, take, map, refl, sym, ap, ap₂, ◌∙◌, subst}
 use Rattle.std.specs.List.{list_any}
 use Rattle.class_format.specs.declared.record.Member.{Member}
-use Rattle.linking.specs.Names.{same_text}
+use Rattle.class_names.specs.Names.{same_text}
 use Rattle.linking.proofs.Fields.{name_in, Apart, still_apart, not_apart}
 use Rattle.std.proofs.lemmas.List.{map-append}
 use Rattle.linking.proofs.Steps.{take_with}

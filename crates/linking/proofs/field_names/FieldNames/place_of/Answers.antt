@@ -1,6 +1,6 @@
 -- The place among the keys is that among the names.
 use Rattle.std.proofs.Common.{◌<◌, List, ℕ, length, position, arith, sym, ap, ◌∙◌}
-use Rattle.linking.specs.Names.{same_text}
+use Rattle.class_names.specs.Names.{same_text}
 use Rattle.linking.proofs.Fields.{too_long}
 use Rattle.linking.proofs.Positions.{position-map}
 use Rattle.linking.proofs.field_names.FieldNames.place_of.Goals as goal

@@ -1,7 +1,7 @@
 //! What the entries of a constant pool spell and name (JVMS 4.4).
 
 ghost use Rattle.std.specs.Prelude.{◌≡◌, ◌↔◌, IsTrue};
-ghost use Rattle.linking.specs.Names.{same_text, has_flag, text_of, class_name_of, member_name_of, descriptor_of, reference_of, is_reference, name_of};
+ghost use Rattle.class_names.specs.Names.{same_text, has_flag, text_of, class_name_of, member_name_of, descriptor_of, reference_of, is_reference, name_of};
 
 use class_format::{ClassRecord, PoolEntries, PoolEntry, entry_at};
 
@@ -15,6 +15,8 @@ pub const SYNCHRONIZED: u16 = 0x0020;
 pub const VOLATILE: u16 = 0x0040;
 
 pub const INTERFACE: u16 = 0x0200;
+
+pub const ABSTRACT: u16 = 0x0400;
 
 /// Whether two texts are the same bytes.
 pub fn same_text(a: &[u8], b: &[u8]) -> bool

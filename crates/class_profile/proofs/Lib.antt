@@ -1,0 +1,12 @@
+pub mod Order
+pub mod Told
+pub mod Places
+pub mod Mains
+pub mod Texts
+pub mod Numbers
+pub mod SameTexts
+pub mod Pairs
+pub mod MemberKeys
+pub mod ClassNames
+pub mod KindOrder
+pub mod FirstFault

@@ -1,0 +1,22 @@
+-- Whether two texts are the same, and two numbers.
+use Rattle.std.proofs.Common.{◌≡◌, ℕ, Bool, true, false, List, sym, ◌∙◌, subst, refl}
+use Rattle.std.proofs.lemmas.Bool.{false≢true}
+use Rattle.std.proofs.lemmas.Cmp.{nat_list_eq_equiv}
+use Rattle.std.proofs.lemmas.Slice.Eq.{bytes_eq-Decides}
+use Rattle.class_names.specs.Names.{same_text}
+
+pub same_itself : (a : List ℕ) → same_text a a ≡ true
+same_itself a = nat_list_eq_equiv.refl a
+
+pub same_is : (a b : List ℕ) → same_text a b ≡ true → a ≡ b
+same_is a b e = (bytes_eq-Decides a b).0 e
+
+pub same_of : (a b : List ℕ) → a ≡ b → same_text a b ≡ true
+same_of a b e = subst (λ c. same_text a c ≡ true) e (same_itself a)
+
+pub not_true : (b : Bool) → (b ≡ true → ⊥) → b ≡ false
+not_true true h = absurd (h refl)
+not_true false h = refl
+
+pub not_both : (b : Bool) → b ≡ false → b ≡ true → ⊥
+not_both b fails passes = false≢true (sym fails ∙ passes)
