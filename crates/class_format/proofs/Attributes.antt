@@ -1,7 +1,6 @@
 -- Attributes: what is read is spelled so and is valid, and what is valid and spelled so is read.
 use Rattle.std.proofs.Common.{◌≡◌, ℕ, ◌+◌, ◌<◌, ◌≤◌, Bool, true, false, eqb, ltb, leb, List, ◌++◌, length, Ok, refl, sym, ap, subst, ◌∙◌, append_assoc, arith, inl, inr, Option, Some, None}
 use Rattle.std.specs.Prelude.{◌&&◌, IsTrue}
-use Rattle.std.specs.List.{AllByRecursion}
 use Rattle.std.proofs.lemmas.Bool.{eqb-true, eq-eqb, ltb-true, lt-ltb, leb-true, le-leb}
 use Rattle.class_format.specs.declared.record.PoolEntry.{PoolEntry}
 use Rattle.class_format.specs.declared.record.Attribute.{Attribute, Code, Other, out-Attribute, roll-Attribute, roll-out-Attribute, out-roll-Attribute}
@@ -12,6 +11,7 @@ use Rattle.class_format.specs.declared.record.PoolEntry.TheVariants.{Utf8, Integ
 use Rattle.class_format.specs.Pool.{entry_at, is_utf8, is_code_name, names_utf8, names_code}
 use Rattle.class_format.specs.ClassText.{u2, u4, IsU2, IsU4, AreBytes, table, other_text, inner_of, inner_text, handler_text, code_text, attribute_of, attribute_text, IsHandler, IsOther, IsInnerOpen, IsInner, IsCode}
 use Rattle.class_format.specs.Input.{Input, wrong_attribute, wrong_code_length}
+use Rattle.class_format.specs.FirstFault.{AreInstructions, IsBody}
 use Rattle.class_format.specs.Reading.{handler_from, other_from, inner_from, instructions_from, body_from, code_from, attribute_from}
 use Rattle.class_format.proofs.Fields.{IsBytes, Spells, Spells-then, Spells-split, Reads, steps, demanded, ok_is, u2_reads, u4_reads, bytes_read}
 use Rattle.class_format.proofs.Items.{each_reads}
@@ -71,16 +71,10 @@ inner_reads pool = record {
 
 -- ---- The body of a Code attribute
 
--- the instructions behind their number
-pub record AreInstructions (code : List ℕ) : Type 0 where
-  pub some : 0 < length code
-  pub most : length code ≤ 65535
-  pub are : AreBytes code
-
 abbrev pub instructions_text : List ℕ → List ℕ
 instructions_text code = u4 (length code) ++ code
 
-instructions_reads : Reads instructions_from instructions_text AreInstructions
+pub instructions_reads : Reads instructions_from instructions_text AreInstructions
 unfolding instructions_from
 instructions_reads = record {
   takes = λ i x j bytes e.
@@ -98,15 +92,6 @@ instructions_reads = record {
       let fits : IsU4 (length x) = omega (arith, h.most) in
       rw (u4_reads.again i (length x) a.middle a.first fits, lt-ltb 0 (length x) h.some, le-leb (length x) 65535 h.most) ((bytes_read (length x)).again a.middle x j a.second (refl, are_bytes x h.are));
 }
-
--- a body of a Code attribute with a name, whatever its length
-pub record IsBody (pool : List PoolEntry) (name : ℕ) (body : CodeBody) : Type 0 where
-  pub named : body.name ≡ name
-  pub max_stack : IsU2 body.max_stack
-  pub max_locals : IsU2 body.max_locals
-  pub code : AreInstructions body.code
-  pub handlers : IsU2 (length body.handlers) × AllByRecursion IsHandler body.handlers
-  pub attributes : IsU2 (length body.attributes) × AllByRecursion (IsInner pool) body.attributes
 
 -- the text of a body, its number of instructions with the instructions
 abbrev parted_text : CodeBody → List ℕ
@@ -165,7 +150,7 @@ abbrev pub IsAllowed : List PoolEntry → Bool → Attribute → Type 0
 IsAllowed pool allowed attribute = IsAllowedOpen pool allowed (out-Attribute attribute)
 
 -- a text "Code" is a text
-code_is_utf8 : (pool : List PoolEntry) (name : ℕ) → names_code pool name ≡ true → IsTrue (names_utf8 pool name)
+pub code_is_utf8 : (pool : List PoolEntry) (name : ℕ) → names_code pool name ≡ true → IsTrue (names_utf8 pool name)
 code_is_utf8 pool name e = entry_code (entry_at pool name) e
   where
     entry_code : (entry : Option PoolEntry) → is_code_name entry ≡ true → IsTrue (is_utf8 entry)

@@ -1,6 +1,6 @@
 -- Members and class files: what is read is spelled so and is valid, and what is valid and spelled so is read.
 use Rattle.std.proofs.Common.{◌≡◌, ℕ, zero, suc, ◌+◌, ◌-◌, ◌<◌, ◌≤◌, Bool, true, false, cond, eqb, ltb, List, [], ◌∷◌, ◌++◌, length, Result, Ok, Err, refl, sym, ap, subst, ◌∙◌, append_assoc, arith, ◌↔◌, inl, inr}
-use Rattle.std.specs.Prelude.{◌&&◌, not, IsTrue, count_by, IfOk, IfErr}
+use Rattle.std.specs.Prelude.{◌&&◌, not, IsTrue, count_by, IfOk}
 use Rattle.std.specs.List.{flat_map, AllByRecursion}
 use Rattle.std.proofs.lemmas.Bool.{eqb-true, ltb-true, lt-ltb}
 use Rattle.std.proofs.lemmas.Bool.Decides.{eqb_tells}
@@ -16,8 +16,6 @@ use Rattle.class_format.specs.declared.record.ClassRecord.{ClassRecord}
 use Rattle.class_format.specs.Pool.{names_utf8, names_class}
 use Rattle.class_format.specs.ClassText.{u2, u4, AreBytes, IsU2, table, magic, minor_version, major_version, entry_text, attribute_text, member_text, class_text, IsPlainOpen, IsPlain, IsOfMethodOpen, IsOfMethod, is_code_open, is_code, IsMember, IsField, IsMethod, NamesClass, IsValid, ClassText}
 use Rattle.class_format.specs.declared.refusal.FormatRefusal.{FormatRefusal}
-use Rattle.class_format.specs.declared.refusal.FormatRefusal.TheVariants.{Refused, Memory}
-use Rattle.class_format.specs.Refusals.{IsRefusedFor}
 use Rattle.class_format.specs.Input.{Input, Fault, Gives, ◌>>=◌, demand, wrong_magic, wrong_version, wrong_index, trailing}
 use Rattle.class_format.specs.Reading.{index_from, attribute_from, attributes_from, member_from, header_from, names_from, body_of_class_from, class_from}
 use Rattle.class_format.proofs.Fields.{IsBytes, Spells, Spells-then, Spells-split, Reads, steps, bind_ok, demanded, ok_is, u2_reads, u4_reads}
@@ -32,11 +30,11 @@ use Rattle.class_format.proofs.Attributes.{IsAllowedOpen, IsAllowed, attribute_r
 abbrev AttributeFacts : List PoolEntry → Bool → ℕ → List Attribute → Type 0
 AttributeFacts pool = Facts (λ allowed n. attribute_from pool allowed) (λ attribute allowed. allowed && not (is_code attribute)) attribute_text (λ allowed n. IsAllowed pool allowed)
 
-plain_open : (pool : List PoolEntry) (o : Attribute-F Attribute CodeBody) → IsAllowedOpen pool false o → IsPlainOpen pool o
+pub plain_open : (pool : List PoolEntry) (o : Attribute-F Attribute CodeBody) → IsAllowedOpen pool false o → IsPlainOpen pool o
 plain_open pool (opened.Code body) h = absurd (let e = h.0 in cc)
 plain_open pool (opened.Other name content) h = h
 
-of_plain_open : (pool : List PoolEntry) (o : Attribute-F Attribute CodeBody) → IsPlainOpen pool o → IsAllowedOpen pool false o
+pub of_plain_open : (pool : List PoolEntry) (o : Attribute-F Attribute CodeBody) → IsPlainOpen pool o → IsAllowedOpen pool false o
 of_plain_open pool (opened.Code body) h = absurd h
 of_plain_open pool (opened.Other name content) h = h
 
@@ -51,26 +49,26 @@ facts_of_plain pool [] h = tt
 facts_of_plain pool (x ∷ xs) h = (of_plain_open pool (out-Attribute x) h.0, facts_of_plain pool xs h.1)
 
 -- how many Code attributes have been
-abbrev used : Bool → ℕ
+abbrev pub used : Bool → ℕ
 used true = 0
 used false = 1
 
-abbrev one_if : Bool → ℕ
+abbrev pub one_if : Bool → ℕ
 one_if b = cond b 1 0
 
-of_method_open : (pool : List PoolEntry) (allowed : Bool) (o : Attribute-F Attribute CodeBody) → IsAllowedOpen pool allowed o → IsOfMethodOpen pool o × (used (allowed && not (is_code_open o)) ≡ used allowed + one_if (is_code_open o))
+pub of_method_open : (pool : List PoolEntry) (allowed : Bool) (o : Attribute-F Attribute CodeBody) → IsAllowedOpen pool allowed o → IsOfMethodOpen pool o × (used (allowed && not (is_code_open o)) ≡ used allowed + one_if (is_code_open o))
 of_method_open pool true (opened.Code body) h = (h.1, omega arith)
 of_method_open pool false (opened.Code body) h = absurd (let e = h.0 in cc)
 of_method_open pool true (opened.Other name content) h = (h, omega arith)
 of_method_open pool false (opened.Other name content) h = (h, omega arith)
 
-allowed_open : (pool : List PoolEntry) (allowed : Bool) (o : Attribute-F Attribute CodeBody) → IsOfMethodOpen pool o → used allowed + one_if (is_code_open o) ≤ 1 → IsAllowedOpen pool allowed o
+pub allowed_open : (pool : List PoolEntry) (allowed : Bool) (o : Attribute-F Attribute CodeBody) → IsOfMethodOpen pool o → used allowed + one_if (is_code_open o) ≤ 1 → IsAllowedOpen pool allowed o
 allowed_open pool true (opened.Code body) h le = (refl, h)
 allowed_open pool false (opened.Code body) h le = absurd (omega arith)
 allowed_open pool true (opened.Other name content) h le = h
 allowed_open pool false (opened.Other name content) h le = h
 
-count_cons : (x : Attribute) (xs : List Attribute) → count_by is_code (x ∷ xs) ≡ one_if (is_code x) + count_by is_code xs
+pub count_cons : (x : Attribute) (xs : List Attribute) → count_by is_code (x ∷ xs) ≡ one_if (is_code x) + count_by is_code xs
 count_cons x xs = sum_by-cons (λ y. one_if (is_code y)) x xs
 
 method_from_facts : (pool : List PoolEntry) (allowed : Bool) (n : ℕ) (xs : List Attribute) → AttributeFacts pool allowed n xs → AllByRecursion (IsOfMethod pool) xs × (used allowed + count_by is_code xs ≤ 1)
@@ -95,7 +93,7 @@ facts_of_method pool allowed (x ∷ xs) h le =
 attributes_read : (pool : List PoolEntry) (allowed : Bool) → Reads (attributes_from pool allowed) (table attribute_text) (λ xs. IsU2 (length xs) × AttributeFacts pool allowed (length xs) xs)
 attributes_read pool allowed = table_reads (λ allowed n. attribute_from pool allowed) (λ attribute allowed. allowed && not (is_code attribute)) attribute_text (λ allowed n. IsAllowed pool allowed) (λ allowed n. attribute_reads pool allowed) allowed
 
-plain_reads : (pool : List PoolEntry) → Reads (attributes_from pool false) (table attribute_text) (λ xs. IsU2 (length xs) × AllByRecursion (IsPlain pool) xs)
+pub plain_reads : (pool : List PoolEntry) → Reads (attributes_from pool false) (table attribute_text) (λ xs. IsU2 (length xs) × AllByRecursion (IsPlain pool) xs)
 plain_reads pool =
     let r = attributes_read pool false in
     record {
@@ -142,7 +140,7 @@ member_again pool allowed i x j s h =
 member_is : (pool : List PoolEntry) (allowed : Bool) (m : Member) → IsMemberWith pool allowed m → IsMember pool m
 member_is pool allowed m h = record { flags = h.flags; name_fits = h.name.0; name = h.name.1; descriptor_fits = h.descriptor.0; descriptor = h.descriptor.1; attribute_count = h.attributes.0 }
 
-field_reads : (pool : List PoolEntry) → Reads (member_from pool false) member_text (IsField pool)
+pub field_reads : (pool : List PoolEntry) → Reads (member_from pool false) member_text (IsField pool)
 field_reads pool = record {
   takes = λ i x j bytes e.
       let t = member_takes pool false i x j bytes e in
@@ -155,7 +153,7 @@ field_reads pool = record {
   });
 }
 
-method_reads : (pool : List PoolEntry) → Reads (member_from pool true) member_text (IsMethod pool)
+pub method_reads : (pool : List PoolEntry) → Reads (member_from pool true) member_text (IsMethod pool)
 method_reads pool = record {
   takes = λ i x j bytes e.
       let t = member_takes pool true i x j bytes e in
@@ -172,7 +170,7 @@ method_reads pool = record {
 -- ---- The class file
 
 -- the front of a class file, up to the pool's count
-abbrev header_text : ℕ → List ℕ
+abbrev pub header_text : ℕ → List ℕ
 header_text count = u4 magic ++ u2 minor_version ++ u2 major_version ++ u2 count
 
 header_takes : (i : Input) (x : ℕ) (j : Input) → IsBytes i.bytes → header_from i ≡ Ok (x, j) → Spells i (header_text x) j × IsBytes j.bytes × (IsU2 x × (0 < x))
@@ -208,17 +206,17 @@ header_again i x j s h =
       lt-ltb 0 x h.1,
     ) refl
 
-header_reads : Reads header_from header_text (λ count. IsU2 count × (0 < count))
+pub header_reads : Reads header_from header_text (λ count. IsU2 count × (0 < count))
 header_reads = record { takes = header_takes; again = header_again }
 
 -- the flags and the two names
-abbrev names_text : ℕ × ℕ × ℕ → List ℕ
+abbrev pub names_text : ℕ × ℕ × ℕ → List ℕ
 names_text n = u2 n.0 ++ u2 n.1 ++ u2 n.2
 
-abbrev AreNames : List PoolEntry → ℕ × ℕ × ℕ → Type 0
+abbrev pub AreNames : List PoolEntry → ℕ × ℕ × ℕ → Type 0
 AreNames pool n = IsU2 n.0 × NamesClass pool n.1 × NamesClass pool n.2
 
-names_reads : (pool : List PoolEntry) → Reads (names_from pool) names_text (AreNames pool)
+pub names_reads : (pool : List PoolEntry) → Reads (names_from pool) names_text (AreNames pool)
 unfolding names_from
 names_reads pool = record {
   takes = λ i x j bytes e.
@@ -239,18 +237,18 @@ names_reads pool = record {
 }
 
 -- what stands behind the pool
-abbrev rest_text : ClassRecord → List ℕ
+abbrev pub rest_text : ClassRecord → List ℕ
 rest_text r = names_text (r.flags, r.this, r.parent) ++ table u2 r.interfaces ++ table member_text r.fields ++ table member_text r.methods ++ table attribute_text r.attributes
 
-record IsRest (pool : List PoolEntry) (r : ClassRecord) : Type 0 where
-  pool_is : r.pool ≡ pool
-  names : AreNames pool (r.flags, r.this, r.parent)
-  interfaces : IsU2 (length r.interfaces) × AllByRecursion (NamesClass pool) r.interfaces
-  fields : IsU2 (length r.fields) × AllByRecursion (IsField pool) r.fields
-  methods : IsU2 (length r.methods) × AllByRecursion (IsMethod pool) r.methods
-  attributes : IsU2 (length r.attributes) × AllByRecursion (IsPlain pool) r.attributes
+pub record IsRest (pool : List PoolEntry) (r : ClassRecord) : Type 0 where
+  pub pool_is : r.pool ≡ pool
+  pub names : AreNames pool (r.flags, r.this, r.parent)
+  pub interfaces : IsU2 (length r.interfaces) × AllByRecursion (NamesClass pool) r.interfaces
+  pub fields : IsU2 (length r.fields) × AllByRecursion (IsField pool) r.fields
+  pub methods : IsU2 (length r.methods) × AllByRecursion (IsMethod pool) r.methods
+  pub attributes : IsU2 (length r.attributes) × AllByRecursion (IsPlain pool) r.attributes
 
-rest_takes : (pool : List PoolEntry) (i : Input) (x : ClassRecord) (j : Input) → IsBytes i.bytes → body_of_class_from pool i ≡ Ok (x, j) → Spells i (rest_text x) j × IsBytes j.bytes × IsRest pool x
+pub rest_takes : (pool : List PoolEntry) (i : Input) (x : ClassRecord) (j : Input) → IsBytes i.bytes → body_of_class_from pool i ≡ Ok (x, j) → Spells i (rest_text x) j × IsBytes j.bytes × IsRest pool x
 unfolding body_of_class_from
 rest_takes pool i x j bytes e =
     let a = steps (names_reads pool) _ i (x, j) bytes e in
@@ -266,7 +264,7 @@ rest_takes pool i x j bytes e =
     subst (λ (y : ClassRecord × Input). Spells i (rest_text y.0) y.1 × IsBytes y.1.bytes × IsRest pool y.0) (ok_is (made, f.rest) (x, j) f.goes)
     (whole, f.bytes, record { pool_is = refl; names = a.fits; interfaces = b.fits; fields = c.fits; methods = d.fits; attributes = f.fits })
 
-rest_again : (i : Input) (x : ClassRecord) (j : Input) → Spells i (rest_text x) j → IsRest x.pool x → body_of_class_from x.pool i ≡ Ok (x, j)
+pub rest_again : (i : Input) (x : ClassRecord) (j : Input) → Spells i (rest_text x) j → IsRest x.pool x → body_of_class_from x.pool i ≡ Ok (x, j)
 unfolding body_of_class_from
 rest_again i x j s h =
     let pool = x.pool in
@@ -290,10 +288,10 @@ parted_text r = header_text (length r.pool + 1) ++ (flat_map entry_text r.pool +
 parted_is : (r : ClassRecord) → class_text r ≡ parted_text r
 parted_is r = simp append_assoc
 
-abbrev start : List ℕ → Input
+abbrev pub start : List ℕ → Input
 start bytes = record { place = 0; bytes = bytes }
 
-valid_of : (r : ClassRecord) (count : ℕ) → IsU2 count × (0 < count) → IsCheckedPool (count - 1) r.pool → IsRest r.pool r → IsValid r
+pub valid_of : (r : ClassRecord) (count : ℕ) → IsU2 count × (0 < count) → IsCheckedPool (count - 1) r.pool → IsRest r.pool r → IsValid r
 valid_of r count c p h = record {
   pool = record { count = omega (arith, p.pool_of.count, c.0, c.1); fields = p.pool_of.fields; gaps = p.pool_of.gaps; names = p.names };
   flags = h.names.0;
@@ -309,18 +307,28 @@ valid_of r count c p h = record {
   attributes = h.attributes.1;
 }
 
-class_is : (bytes : List ℕ) (r : ClassRecord) (count : ℕ) (m : Input) (pool : List PoolEntry) (n : Input) (made : ClassRecord) (j : Input)
+-- what was read up to j is the text of a valid record
+pub record Stands (bytes : List ℕ) (made : ClassRecord) (j : Input) : Type 0 where
+  pub valid : IsValid made
+  pub text : bytes ≡ class_text made ++ j.bytes
+  pub place : j.place ≡ length (class_text made)
+
+pub class_stands : (bytes : List ℕ) (count : ℕ) (m : Input) (pool : List PoolEntry) (n : Input) (made : ClassRecord) (j : Input)
     → Spells (start bytes) (header_text count) m → IsU2 count × (0 < count) → Spells m (flat_map entry_text pool) n → IsCheckedPool (count - 1) pool → Spells n (rest_text made) j → IsRest pool made
-    → j.bytes ≡ [] → made ≡ r → ClassText r bytes
-class_is bytes r count m pool n made j a count_fits b p c h none is =
+    → Stands bytes made j
+class_stands bytes count m pool n made j a count_fits b p c h =
     let count_is : count ≡ length made.pool + 1 = rw h.pool_is (omega (arith, p.pool_of.count, count_fits.1)) in
     let pooled : Spells m (flat_map entry_text made.pool) n = rw h.pool_is b in
     let counted : Spells (start bytes) (header_text (length made.pool + 1)) m = rw (← count_is) a in
     let behind = Spells-then m n j (flat_map entry_text made.pool) (rest_text made) pooled c in
     let all = Spells-then (start bytes) m j (header_text (length made.pool + 1)) (flat_map entry_text made.pool ++ rest_text made) counted behind in
-    let whole : bytes ≡ class_text made = all.bytes ∙ ap (λ (t : List ℕ). parted_text made ++ t) none ∙ append-nil (parted_text made) ∙ sym (parted_is made) in
-    let valid : IsValid made = valid_of made count count_fits (rw h.pool_is p) (subst (λ (q : List PoolEntry). IsRest q made) (sym h.pool_is) h) in
-    subst (λ (q : ClassRecord). ClassText q bytes) is (record { valid = valid; text = whole })
+    let whole : Spells (start bytes) (class_text made) j = subst (λ (t : List ℕ). Spells (start bytes) t j) (sym (parted_is made)) all in
+    record { valid = valid_of made count count_fits (rw h.pool_is p) (subst (λ (q : List PoolEntry). IsRest q made) (sym h.pool_is) h); text = whole.bytes; place = omega (arith, whole.place) }
+
+class_is : (bytes : List ℕ) (r made : ClassRecord) (j : Input) → Stands bytes made j → j.bytes ≡ [] → made ≡ r → ClassText r bytes
+class_is bytes r made j h none is =
+    let whole : bytes ≡ class_text made = h.text ∙ ap (λ (t : List ℕ). class_text made ++ t) none ∙ append-nil (class_text made) in
+    subst (λ (q : ClassRecord). ClassText q bytes) is (record { valid = h.valid; text = whole })
 
 pub class_takes : (bytes : List ℕ) (r : ClassRecord) → IsBytes bytes → class_from bytes ≡ Ok r → ClassText r bytes
 unfolding class_from
@@ -330,7 +338,7 @@ class_takes bytes r fits e =
     let c = bind_ok (body_of_class_from b.item b.rest) _ r b.goes in
     let t = rest_takes b.item b.rest c.0.0 c.0.1 b.bytes c.1 in
     let d = demanded (eqb (length c.0.1.bytes) 0) trailing c.0.1.place _ r c.2 in
-    class_is bytes r a.item a.rest b.item b.rest c.0.0 c.0.1 a.spells a.fits b.spells b.fits t.0 t.2 (nil_from_length c.0.1.bytes (eqb-true _ _ d.0)) (ok_is c.0.0 r d.1)
+    class_is bytes r c.0.0 c.0.1 (class_stands bytes a.item a.rest b.item b.rest c.0.0 c.0.1 a.spells a.fits b.spells b.fits t.0 t.2) (nil_from_length c.0.1.bytes (eqb-true _ _ d.0)) (ok_is c.0.0 r d.1)
 
 -- a text and what follows it
 read_to : (bytes : List ℕ) (r : ClassRecord) (more : List ℕ) → IsValid r → bytes ≡ class_text r ++ more
@@ -370,11 +378,6 @@ found bytes (Err e) fits given = tt
 
 pub only : (bytes : List ℕ) (r : Result ClassRecord FormatRefusal) (class : ClassRecord) → ClassText class bytes → Gives (λ read. read) r (class_from bytes) → Gives (λ read. read) r (Ok class)
 only bytes r class text given = subst (λ (read : Result ClassRecord Fault). Gives (λ (c : ClassRecord). c) r read) (class_again bytes class text) given
-
-pub refused : (bytes : List ℕ) (r : Result ClassRecord FormatRefusal) → Gives (λ class. class) r (class_from bytes) → IfErr r (IsRefusedFor bytes)
-refused bytes (Ok class) given = tt
-refused bytes (Err Memory) given = tt
-refused bytes (Err (Refused kind place)) given = (given, λ class text. absurd (let e : Ok class ≡ Err (record { kind = kind; place = place }) = sym (class_again bytes class text) ∙ given in cc))
 
 pub one_record : (r s : ClassRecord) (bytes : List ℕ) → ClassText r bytes → ClassText s bytes → r ≡ s
 one_record r s bytes t u = ok_is r s (sym (class_again bytes r t) ∙ class_again bytes s u)

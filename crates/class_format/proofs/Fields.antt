@@ -6,6 +6,7 @@ use Rattle.std.proofs.lemmas.Nat.{be_bytes_2, be_bytes_4, from_be_bytes-to_be_by
 use Rattle.byteorder.specs.Endian.{big_number}
 use Rattle.class_format.specs.ClassText.{u2, u4, IsU2, IsU4}
 use Rattle.class_format.specs.Input.{Input, Fault, ◌>>=◌, demand, number_from, bytes_from, passes_end, after}
+pub use Rattle.class_format.specs.FirstFault.{Spells}
 
 -- the bytes are bytes
 pub record IsBytes (bytes : List ℕ) : Type 0 where
@@ -22,11 +23,6 @@ IsBytes-take n bytes h = record {
         | inr le ↦ rw (get_or_past (take n bytes) k 0 (omega (arith, length-take n bytes))) (omega arith)
       ];
 }
-
--- the bytes from one input to a later one
-pub record Spells (i : Input) (text : List ℕ) (j : Input) : Type 0 where
-  pub bytes : i.bytes ≡ text ++ j.bytes
-  pub place : j.place ≡ i.place + length text
 
 pub Spells-then : (i m j : Input) (a b : List ℕ) → Spells i a m → Spells m b j → Spells i (a ++ b) j
 Spells-then i m j a b p q = record {

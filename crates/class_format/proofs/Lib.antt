@@ -8,3 +8,11 @@ pub mod PoolTexts
 pub mod Opened
 pub mod Attributes
 pub mod Classes
+pub mod Faults
+pub mod ItemFaults
+pub mod EntryFaults
+pub mod PoolFaults
+pub mod AttributeFaults
+pub mod MemberFaults
+pub mod ClassFaults
+pub mod FaultStays

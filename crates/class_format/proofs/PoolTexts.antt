@@ -29,7 +29,7 @@ numbered_again true n i x j s is =
     rw (is, place) refl
 numbered_again false n i x j s h = (entry_reads n).again i x j s h
 
-numbered_reads : (wide : Bool) (n : ℕ) → Reads (numbered_from wide n) entry_text (IsNumbered wide n)
+pub numbered_reads : (wide : Bool) (n : ℕ) → Reads (numbered_from wide n) entry_text (IsNumbered wide n)
 numbered_reads wide n = record { takes = numbered_takes wide n; again = numbered_again wide n }
 
 -- the facts of a pool, where so many numbers are left
@@ -55,7 +55,7 @@ fields_from_facts true (suc n) (x ∷ pool) h = (subst FitsFields (sym h.0) tt, 
 fields_from_facts false (suc n) (x ∷ pool) h = (h.0.fits, fields_from_facts (takes_two_numbers x) n pool h.1)
 
 -- a gap is the entry
-is_gap_is : (x : PoolEntry) → is_gap x ≡ true → x ≡ Gap
+pub is_gap_is : (x : PoolEntry) → is_gap x ≡ true → x ≡ Gap
 is_gap_is (Utf8 b) e = absurd cc
 is_gap_is (Integer b) e = absurd cc
 is_gap_is (Float b) e = absurd cc
@@ -106,7 +106,7 @@ one_met : (a : Bool) (kind m : ℕ) → demand a kind m ≡ Ok tt → IsTrue a
 one_met true kind m e = refl
 one_met false kind m e = absurd cc
 
-entry_checked : (pool : List PoolEntry) (x : PoolEntry) (place : ℕ) → check_entry pool x place ≡ Ok tt → NamesEntries pool x
+pub entry_checked : (pool : List PoolEntry) (x : PoolEntry) (place : ℕ) → check_entry pool x place ≡ Ok tt → NamesEntries pool x
 entry_checked pool (Utf8 b) place e = tt
 entry_checked pool (Integer b) place e = tt
 entry_checked pool (Float b) place e = tt
@@ -120,7 +120,7 @@ entry_checked pool (InterfaceMethod b c) place e = two_met _ _ _ _ _ e
 entry_checked pool (NameAndType b c) place e = two_met _ _ _ _ _ e
 entry_checked pool Gap place e = tt
 
-check_again : (pool : List PoolEntry) (x : PoolEntry) (place : ℕ) → NamesEntries pool x → check_entry pool x place ≡ Ok tt
+pub check_again : (pool : List PoolEntry) (x : PoolEntry) (place : ℕ) → NamesEntries pool x → check_entry pool x place ≡ Ok tt
 check_again pool (Utf8 b) place h = refl
 check_again pool (Integer b) place h = refl
 check_again pool (Float b) place h = refl

@@ -1,4 +1,4 @@
--- Reading from the front, and the first fault that is met.
+-- A place in a file with what is left of it, faults, and reading from the front.
 use Rattle.std.specs.Prelude.{◌≡◌, ℕ, zero, suc, ◌+◌, Bool, true, false, List, [], ◌∷◌, length, take, drop, Result, Ok, Err, nat_lt, if◌then◌else◌}
 use Rattle.byteorder.specs.Endian.{big_number}
 use Rattle.class_format.specs.declared.refusal.FormatRefusal.{FormatRefusal}

@@ -1,6 +1,6 @@
--- Reading a class file from the front, up to the first fault (docs/PROFILE.md, "Refusals of class files").
--- Each function reads one part and says what is left behind it; a fault is of the first field that is not
--- as it has to be.
+-- Reading a class file from the front, as the functions of the code do: each function here reads one part and says what is
+-- left behind it, or where it stops. That reading stops exactly at the first fault of FirstFault, and else ends exactly at
+-- texts, are laws (`ReadingStops` and `ReadsTexts` of Laws).
 use Rattle.std.specs.Prelude.{ℕ, ◌+◌, ◌-◌, ◌==◌, ◌&&◌, Bool, true, false, not, List, [], ◌∷◌, length, Result, Ok, Err, nat_lt, nat_le, if◌then◌else◌}
 use Rattle.class_format.specs.declared.record.PoolEntry.{PoolEntry}
 use Rattle.class_format.specs.declared.record.PoolEntry.TheVariants.{Utf8, Integer, Float, Long, Double, Class, Text, Field, Method, InterfaceMethod, NameAndType, Gap}

@@ -1,9 +1,10 @@
 //! Reading a class file (JVMS 4.1).
 
-ghost use Rattle.std.specs.Prelude.{◌≡◌, ◌<◌, IfOk, IfErr, Ok};
+ghost use Rattle.std.specs.Prelude.{◌≡◌, ℕ, ◌<◌, IfOk, IfErr, Ok, Err};
 ghost use Rattle.class_format.specs.declared.record.ClassRecord.{ClassRecord};
 ghost use Rattle.class_format.specs.ClassText.{ClassText};
-ghost use Rattle.class_format.specs.Refusals.{IsRefusedFor};
+ghost use Rattle.class_format.specs.FirstFault.{fault_at};
+ghost use Rattle.class_format.specs.Refusals.{IsFirstFault, IsRefusedFor};
 ghost use Rattle.class_format.specs.Input.{Gives, each_from};
 ghost use Rattle.class_format.specs.Pool.{names_class};
 ghost use Rattle.class_format.specs.Reading.{index_from, member_from, header_from, names_from, body_of_class_from, class_from};
@@ -164,6 +165,8 @@ pub fn read_class(alloc: Global, bytes: &[u8]) -> Result<ClassRecord, FormatRefu
     ensures only { (class : ClassRecord) → ClassText class bytes.now → Gives (λ read. read) result (Ok class) }
     // Bytes are refused where they are no text, with their first fault.
     ensures refused { IfErr result (IsRefusedFor bytes.now) }
+    // Bytes with a first fault are refused with it, unless memory runs out.
+    ensures faulty { (kind place : ℕ) → IsFirstFault bytes.now kind place → Gives (λ read. read) result (Err (fault_at kind place)) }
 {
     whole(alloc, bytes)
 }

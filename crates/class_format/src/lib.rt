@@ -17,7 +17,10 @@ mod refusal;
 pub use byte_text::ByteText;
 pub use class_reader::read_class;
 pub use indices::Indices;
-pub use laws::{bytes_behind, number_is_bytes, one_record, one_text, reads_texts, valid_has_text};
+pub use laws::{
+    beginnings, bytes_behind, cut_texts, fault_stays, number_is_bytes, one_fault, one_record,
+    one_text, reading_stops, reads_texts, text_or_fault, valid_has_text,
+};
 pub use listed::Listed;
 pub use pool::{entry_at, names_class, names_code, names_name_and_type, names_utf8};
 pub use record::{

@@ -241,37 +241,44 @@ fn refusals(rt: HostRuntime) -> Result<(), Fail> {
     Ok(())
 }
 
-// What javap says of the class.
+// What javap says of the class: its head, its pool, and its method run.
+fn has_head(class: &ClassRecord) -> bool {
+    class.pool.len() == 47
+        && (class.flags, class.this, class.parent) == (0x20, 11, 2)
+        && class.interfaces.as_slice() == [19].as_slice()
+        && (class.fields.len(), class.methods.len()) == (6, 3)
+}
+
+fn has_entries(pool: &PoolEntries) -> bool {
+    matches!(entry_at(pool, 29), Some(PoolEntry::Long(1, 0)))
+        && matches!(entry_at(pool, 30), Some(PoolEntry::Gap))
+        && matches!(entry_at(pool, 24), Some(PoolEntry::Integer(70000)))
+        && matches!(entry_at(pool, 18), Some(PoolEntry::InterfaceMethod(19, 20)))
+        && matches!(entry_at(pool, 36), Some(PoolEntry::Text(37)))
+}
+
+fn has_handler(handler: &Handler) -> bool {
+    (handler.start, handler.end) == (0, 13) && (handler.target, handler.catch) == (16, 16)
+}
+
+fn has_parts(body: &CodeBody) -> bool {
+    (body.max_stack, body.max_locals, body.code.len()) == (2, 2, 18)
+        && matches!(body.handlers.get(0), Some(handler) if has_handler(handler))
+        && body.attributes.len() == 2
+}
+
+fn has_code(method: &Member) -> bool {
+    match method.attributes.as_slice() {
+        [Attribute::Code(body)] => has_parts(body),
+        _ => false,
+    }
+}
+
 #[test]
 fn every_tag(rt: HostRuntime) -> Result<(), Fail> {
     let class = read_class(rt.alloc(), &EVERY)?;
-    assert_eq!(rt; class.pool.len(), 47);
-    assert_eq!(rt; (class.flags, class.this, class.parent), (0x20, 11, 2));
-    assert_eq!(rt; class.interfaces.as_slice(), [19].as_slice());
-    assert_eq!(rt; (class.fields.len(), class.methods.len()), (6, 3));
-    assert!(rt; matches!(entry_at(&class.pool, 29), Some(PoolEntry::Long(1, 0))));
-    assert!(rt; matches!(entry_at(&class.pool, 30), Some(PoolEntry::Gap)));
-    assert!(rt; matches!(entry_at(&class.pool, 24), Some(PoolEntry::Integer(70000))));
-    assert!(rt;
-        matches!(
-            entry_at(&class.pool, 18),
-            Some(PoolEntry::InterfaceMethod(19, 20))
-        )
-    );
-    assert!(rt; matches!(entry_at(&class.pool, 36), Some(PoolEntry::Text(37))));
-    let run = class.methods.get(1).ok_or("no method run")?;
-    match run.attributes.as_slice() {
-        [Attribute::Code(body)] => {
-            assert_eq!(rt;
-                (body.max_stack, body.max_locals, body.code.len()),
-                (2, 2, 18)
-            );
-            let handler = body.handlers.get(0).ok_or("no handler")?;
-            assert_eq!(rt; (handler.start, handler.end), (0, 13));
-            assert_eq!(rt; (handler.target, handler.catch), (16, 16));
-            assert_eq!(rt; body.attributes.len(), 2);
-        }
-        _ => assert!(rt; false),
-    }
+    assert!(rt; has_head(&class));
+    assert!(rt; has_entries(&class.pool));
+    assert!(rt; matches!(class.methods.get(1), Some(run) if has_code(run)));
     Ok(())
 }

@@ -7,4 +7,6 @@ mod tests;
 mod text;
 mod write;
 
+pub use pieces::Piece;
+pub use text::{Text, put_each};
 pub use write::write_sequence;

@@ -1,0 +1,13 @@
+pub mod Texts
+pub mod Positions
+pub mod Fields
+pub mod Steps
+pub mod Variables
+pub mod Changes
+pub mod Typed
+pub mod Facts
+pub mod Linked
+pub mod Numbers
+pub mod OneProgram
+pub mod OwnFields
+pub mod Counts

@@ -1,0 +1,65 @@
+-- From the run of a straight program to the answer.
+use Rattle.std.proofs.Common.{◌≡◌, ℕ, ℤ, List, Option, All, subst, sym, ap, ◌∙◌, get_or, length, ◌<◌}
+use Rattle.java_int.specs.JavaInt.{Fits}
+use Rattle.line_text.specs.declared.outcome.OutcomePart.{OutcomePart}
+use Rattle.ports.specs.Growth.{IsTold}
+use Rattle.program.specs.Program.{Prog}
+use Rattle.program.specs.Straight.{IsStraight}
+use Rattle.action_orders.specs.Execution.{Exec}
+use Rattle.action_orders.specs.Runs.{Prints}
+use Rattle.action_orders.specs.Verdict.{IsPossibleWithin, JustifiesWithin, Shows}
+use Rattle.action_orders.specs.declared.action.ActionRef.{ActionRef}
+use Rattle.action_orders.specs.declared.sequence.SequenceStep.{SequenceStep}
+use Rattle.sequence_text.specs.SequenceText.{sequence_text}
+use Rattle.straight.specs.Laws.{IsJustified, StraightIsJustified, sequence_of}
+use Rattle.straight.specs.Meaning.{execution_of, printed_of, ints_of}
+use Rattle.straight.specs.Runs.{IsRunOf}
+use Rattle.straight.specs.declared.run.StraightRun.{StraightRun}
+use Rattle.straight_executions.specs.Laws.{StraightForbids}
+use Rattle.straight_sequence.specs.Defaults.{AreDefaultsInOrder}
+use Rattle.straight_sequence.specs.Steps.{IsSequenceOf}
+use Rattle.verdict.specs.Judging.{IsShown, NamesMain, ShowsOutcome}
+use Rattle.verdict.specs.declared.question.Question.{Question}
+
+module _ (p : Prog) (h : IsStraight p) (q : Question) (run : StraightRun) (is : IsRunOf p run) where
+  -- an outcome that the run does not show is forbidden
+  pub forbidden : StraightForbids → (ShowsOutcome q run → ⊥) → IsPossibleWithin p q.outcome q.bounds → ⊥
+  forbidden law not possible = not (record {
+    fit = subst (λ xs. All (Fits q.bounds.width) xs) (sym (is.ints h.main h.method)) (law p h q.outcome q.bounds possible).0;
+    prints = subst (λ xs. NamesMain q.outcome xs) (sym (is.printed h.main h.method)) (law p h q.outcome q.bounds possible).1;
+  })
+
+  shows_all : (e : Exec) → Prints p e 0 (printed_of p h.main) → NamesMain q.outcome run.printed → Shows p e q.outcome
+  shows_all e prints names k d within =
+      subst (λ (t : ℕ). Prints p e t (get_or q.outcome k d).values) (sym (names k d within).0)
+      (subst (λ (xs : List ℤ). Prints p e 0 xs) (sym ((names k d within).1 ∙ is.printed h.main h.method)) prints)
+
+  justified : (defaults : List ActionRef) → IsJustified p h.main q.bounds defaults → NamesMain q.outcome run.printed →
+      JustifiesWithin p q.outcome q.bounds (execution_of p h.main) (sequence_of p h.main defaults)
+  justified defaults j names = record {
+    justifies = record {
+      well_formed = j.well_formed;
+      each_well_formed = j.each_well_formed;
+      commits = j.commits;
+      shows = shows_all (execution_of p h.main) j.prints names;
+    };
+    within = j.within;
+    each_within = j.each_within;
+  }
+
+  -- an outcome that it shows is shown by the text
+  pub shown : (sequence : List SequenceStep) (content : Option (List ℕ)) → StraightIsJustified → IsSequenceOf p sequence → ShowsOutcome q run →
+      IsTold (sequence_text run.execution sequence) content → IsShown p q content
+  shown sequence content law of shows told = go (of h.main h.method)
+    where
+      fit : All (Fits q.bounds.width) (ints_of p h.main)
+      fit = subst (λ xs. All (Fits q.bounds.width) xs) (is.ints h.main h.method) shows.fit
+
+      go : (defaults : List ActionRef) × AreDefaultsInOrder p defaults × (sequence ≡ sequence_of p h.main defaults) → IsShown p q content
+      go (defaults, in_order, is_sequence) = record {
+        execution = execution_of p h.main;
+        sequence = sequence_of p h.main defaults;
+        justified = justified defaults (law p h q.bounds defaults in_order.defaults fit) shows.prints;
+        text = subst (λ (s : List SequenceStep). IsTold (sequence_text (execution_of p h.main) s) content) is_sequence
+            (subst (λ (e : Exec). IsTold (sequence_text e sequence) content) (is.execution h.main h.method) told);
+      }

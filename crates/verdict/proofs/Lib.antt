@@ -1,0 +1,4 @@
+pub mod ClassFiles
+pub mod Judged
+pub mod Stopped
+pub mod Answered

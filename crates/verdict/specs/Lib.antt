@@ -1,0 +1,9 @@
+pub mod Answers
+pub mod ClassFile
+pub mod Judging
+pub mod OutputText
+pub mod Pieces
+pub mod Question
+pub mod Reports
+pub mod Stops
+pub mod Verdicts
