@@ -1,0 +1,4 @@
+pub mod Changes
+pub mod Doings
+pub mod Effects
+pub mod Values

@@ -1,0 +1,18 @@
+//! The meaning of a thread: the one run that it has for the values of its reads (docs/MODEL.md, "Programs and runs").
+#![tactic(auto)]
+
+mod decoding;
+mod doing;
+mod effect;
+mod end;
+mod frame;
+mod stack;
+mod value;
+
+pub use decoding::what_it_does;
+pub use doing::{Binary, Comparison, Doing, Test, Unary};
+pub use effect::Effect;
+pub use end::TraceEnd;
+pub use frame::Frame;
+pub use stack::Stack;
+pub use value::Value;
