@@ -1,1 +1,4 @@
 mod Applied
+pub mod Normal
+pub mod Sound
+pub mod Unique
