@@ -1,4 +1,5 @@
 mod Applied
 pub mod Normal
+pub mod OneStep
 pub mod Sound
 pub mod Unique

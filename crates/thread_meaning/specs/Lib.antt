@@ -1,4 +1,6 @@
 pub mod Changes
 pub mod Doings
 pub mod Effects
+pub mod Laws
+pub mod Paths
 pub mod Values
