@@ -6,6 +6,7 @@ mod doing;
 mod effect;
 mod end;
 mod frame;
+pub mod laws;
 mod stack;
 mod value;
 

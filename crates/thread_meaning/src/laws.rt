@@ -1,0 +1,13 @@
+//! Laws of steps and runs, as contracts of functions that do nothing.
+
+ghost use Rattle.thread_meaning.specs.Laws.{OneStep, OneRun};
+
+/// A step is determined by its state and by the value that it reads.
+pub fn one_step()
+    ensures { OneStep }
+{}
+
+/// A run is determined by its reads.
+pub fn one_run()
+    ensures { OneRun }
+{}
