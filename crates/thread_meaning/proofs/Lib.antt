@@ -1,6 +1,9 @@
+pub mod Acting
 mod Applied
+pub mod Looking
 pub mod Normal
 pub mod OneStep
+pub mod Running
 pub mod Runs
 pub mod Sound
 pub mod Unique

@@ -18,6 +18,7 @@ use Rattle.program.specs.declared.method.Operand.{Operand}
 use Rattle.program.specs.declared.method.Operand.TheVariants as operand
 use Rattle.thread_meaning.specs.Changes.{Change, goes_on, branches, jumps, change_of}
 use Rattle.thread_meaning.specs.Doings.{unary_op, binary_op, compares, condition, doing_of, own_doing}
+use Rattle.thread_meaning.specs.Outcomes.{Outcome, inside, reads, calls, ends, returns, returns_int}
 use Rattle.thread_meaning.specs.Values.{is_reference}
 use Rattle.thread_meaning.specs.declared.doing.Unary.{Unary}
 use Rattle.thread_meaning.specs.declared.doing.Unary.TheVariants as unary
@@ -29,23 +30,6 @@ use Rattle.thread_meaning.specs.declared.doing.Test.TheVariants as test
 use Rattle.thread_meaning.specs.declared.doing.Doing.{Doing}
 use Rattle.thread_meaning.specs.declared.doing.Doing.TheVariants as doing
 
--- what becomes of the frame a of this method, and of its callers, by an instruction that does this
-pub data Outcome (p : Prog) (method : Method) (d : Doing) (behind : ℕ) (a : Activation) (callers : List Activation) (e : Effect) (t : List Activation) : Type 0 where
-  inside : (b : Activation) → change_of d behind a ≡ Some (record { effect = e; after = b }) → t ≡ b ∷ callers → Outcome p method d behind a callers e t
-  reads : (v : ℕ) (n : ℤ) → IsInt n → d ≡ doing.Read v → e ≡ shows (event.Read v n) (n ∷ []) → t ≡ record a { pc = behind; stack = Int n ∷ a.stack } ∷ callers →
-      Outcome p method d behind a callers e t
-  calls : (id : MethodId) (called : Method) (arguments rest : List JavaValue) → d ≡ doing.Call id → IsMethod p id called → length arguments ≡ called.frame.parameters →
-      a.stack ≡ reverse arguments ++ rest → e ≡ record { event = option_map event.Lock called.frame.monitor; ints = []; backward = false } →
-      t ≡ entered_with called arguments ∷ record a { stack = rest } ∷ callers → Outcome p method d behind a callers e t
-  ends : d ≡ doing.Return → callers ≡ [] → e ≡ silent → t ≡ [] → Outcome p method d behind a callers e t
-  returns : (caller : Activation) (others : List Activation) (calling : Method) (call : Instr) (called : Operand) → d ≡ doing.Return → callers ≡ caller ∷ others →
-      IsMethod p caller.method calling → IsInstruction calling caller.pc call called → e ≡ record { event = option_map event.Unlock method.frame.monitor; ints = []; backward = false } →
-      t ≡ record caller { pc = caller.pc + length_of call } ∷ others → Outcome p method d behind a callers e t
-  returns_int : (n : ℤ) (below : List JavaValue) (caller : Activation) (others : List Activation) (calling : Method) (call : Instr) (called : Operand) → d ≡ doing.ReturnInt →
-      a.stack ≡ Int n ∷ below → callers ≡ caller ∷ others → IsMethod p caller.method calling → IsInstruction calling caller.pc call called →
-      e ≡ record { event = option_map event.Unlock method.frame.monitor; ints = n ∷ []; backward = false } →
-      t ≡ record caller { pc = caller.pc + length_of call; stack = Int n ∷ caller.stack } ∷ others → Outcome p method d behind a callers e t
-
 pub record Normal (p : Prog) (s : List Activation) (e : Effect) (t : List Activation) : Type 0 where
   pub top : Activation
   pub callers : List Activation
@@ -55,7 +39,7 @@ pub record Normal (p : Prog) (s : List Activation) (e : Effect) (t : List Activa
   pub names : Operand
   pub is_method : IsMethod p top.method method
   pub instruction : IsInstruction method top.pc instr names
-  pub outcome : Outcome p method (doing_of instr names) (top.pc + length_of instr) top callers e t
+  pub outcome : Outcome p method.frame.monitor (doing_of instr names) (top.pc + length_of instr) top callers e t
 
 -- ---- What the instructions of a kind do
 
@@ -161,13 +145,28 @@ refers_is (Object k) h = refl
 executed : (p : Prog) (s t : List Activation) (e : Effect) (i : Instr) (o : Operand) (before after : List JavaValue) (x : Executes p s t i o before after) →
     change_of (doing_of i o) (x.top.pc + length_of i) x.top ≡ Some (record { effect = e; after = record x.top { pc = x.top.pc + length_of i; stack = after } }) → Normal p s e t
 executed p s t e i o before after x h = record {
-  top = x.top; callers = x.callers; stands = x.stands; method = x.method; instr = i; names = o; is_method = x.is_method; instruction = x.instruction;
+  top = x.top;
+  callers = x.callers;
+  stands = x.stands;
+  method = x.method;
+  instr = i;
+  names = o;
+  is_method = x.is_method;
+  instruction = x.instruction;
   outcome = inside (record x.top { pc = x.top.pc + length_of i; stack = after }) h x.next;
 }
 
-next_does : (p : Prog) (s t : List Activation) (e : Effect) (i : Instr) (o : Operand) (x : ComesNext p s i o) → Outcome p x.method (doing_of i o) (x.top.pc + length_of i) x.top x.callers e t → Normal p s e t
+next_does : (p : Prog) (s t : List Activation) (e : Effect) (i : Instr) (o : Operand) (x : ComesNext p s i o) → Outcome p x.method.frame.monitor (doing_of i o) (x.top.pc + length_of i) x.top x.callers e t → Normal p s e t
 next_does p s t e i o x outcome = record {
-  top = x.top; callers = x.callers; stands = x.stands; method = x.method; instr = i; names = o; is_method = x.is_method; instruction = x.instruction; outcome = outcome;
+  top = x.top;
+  callers = x.callers;
+  stands = x.stands;
+  method = x.method;
+  instr = i;
+  names = o;
+  is_method = x.is_method;
+  instruction = x.instruction;
+  outcome = outcome;
 }
 
 -- the same by what the instruction is known to do
@@ -212,14 +211,28 @@ stayed p s t e i c before after j tests x is =
 pub normal : (p : Prog) (k : ℕ) (s : List Activation) (e : Effect) (t : List Activation) → Step p k s e t → Normal p s e t
 normal p k s e t (step.constant i n stack x is) = executed p s t e i (operand.Constant n) stack (Int n ∷ stack) x (rw (x.stack, is) refl)
 normal p k s e t (step.read index v n stack fits x is) = record {
-  top = x.top; callers = x.callers; stands = x.stands; method = x.method; instr = instr.Getstatic index; names = operand.Variable v; is_method = x.is_method; instruction = x.instruction;
+  top = x.top;
+  callers = x.callers;
+  stands = x.stands;
+  method = x.method;
+  instr = instr.Getstatic index;
+  names = operand.Variable v;
+  is_method = x.is_method;
+  instruction = x.instruction;
   outcome = reads v n fits refl is (x.next ∙ rw x.stack refl);
 }
 normal p k s e t (step.write index v n stack x is) = executed p s t e (instr.Putstatic index) (operand.Variable v) (Int n ∷ stack) stack x (rw (x.stack, is) refl)
 normal p k s e t (step.out index stack x is) = executed p s t e (instr.Getstatic index) operand.Out stack (Out ∷ stack) x (rw (x.stack, is) refl)
 normal p k s e t (step.print i n stack x is) = executed p s t e i operand.Print (Int n ∷ Out ∷ stack) stack x (rw (x.stack, is) refl)
 normal p k s e t (step.returned x is) = record {
-  top = x.top; callers = []; stands = x.stands; method = x.method; instr = instr.Return; names = operand.Nothing; is_method = x.is_method; instruction = x.instruction;
+  top = x.top;
+  callers = [];
+  stands = x.stands;
+  method = x.method;
+  instr = instr.Return;
+  names = operand.Nothing;
+  is_method = x.is_method;
+  instruction = x.instruction;
   outcome = ends refl refl is x.ends;
 }
 normal p k s e t (step.nothing stack x is) = executed p s t e instr.Nop operand.Nothing stack stack x (rw (x.stack, is) refl)
@@ -256,11 +269,25 @@ normal p k s e t (step.calls called arguments x is) =
     next_does p s t e (instr.Invokestatic x.index) (operand.Method called.id) x.next
     (calls called.id called arguments x.rest refl x.is_called x.count x.stack is x.enters)
 normal p k s e t (step.returns_nothing stack method x is) = record {
-  top = x.top; callers = x.caller ∷ x.callers; stands = x.stands; method = method; instr = instr.Return; names = operand.Nothing; is_method = x.is_method; instruction = x.instruction;
+  top = x.top;
+  callers = x.caller ∷ x.callers;
+  stands = x.stands;
+  method = method;
+  instr = instr.Return;
+  names = operand.Nothing;
+  is_method = x.is_method;
+  instruction = x.instruction;
   outcome = returns x.caller x.callers x.calling x.call x.called refl refl x.is_calling x.is_call is x.next;
 }
 normal p k s e t (step.returns_int n stack method x is) = record {
-  top = x.top; callers = x.caller ∷ x.callers; stands = x.stands; method = method; instr = instr.Ireturn; names = operand.Nothing; is_method = x.is_method; instruction = x.instruction;
+  top = x.top;
+  callers = x.caller ∷ x.callers;
+  stands = x.stands;
+  method = method;
+  instr = instr.Ireturn;
+  names = operand.Nothing;
+  is_method = x.is_method;
+  instruction = x.instruction;
   outcome = returns_int n stack x.caller x.callers x.calling x.call x.called refl x.stack_is refl x.is_calling x.is_call is x.next;
 }
 normal p k s e t (step.class_object i m stack loads x is) =

@@ -4,6 +4,7 @@ use Rattle.std.proofs.lemmas.List.{length-reverse, reverse-reverse}
 use Rattle.std.proofs.lemmas.Option.{none-some, same_Some}
 use Rattle.std.specs.Option.{option_map}
 use Rattle.opcodes.specs.Instructions.{length_of}
+use Rattle.opcodes.specs.Listing.{IsByPc}
 use Rattle.opcodes.specs.declared.instruction.Instr.{Instr}
 use Rattle.program.specs.Program.{Prog, IsMethod, IsInstruction}
 use Rattle.program.specs.Step.{JavaValue, Activation, Effect, Step, shows, entered_with, Int}
@@ -16,7 +17,8 @@ use Rattle.thread_meaning.specs.Doings.{doing_of}
 use Rattle.thread_meaning.specs.Paths.{IsOrdered, read_in}
 use Rattle.thread_meaning.specs.declared.doing.Doing.{Doing}
 use Rattle.thread_meaning.specs.declared.doing.Doing.TheVariants as doing
-use Rattle.thread_meaning.proofs.Normal.{Outcome, Normal, inside, reads, calls, ends, returns, returns_int, normal}
+use Rattle.thread_meaning.specs.Outcomes.{Outcome, inside, reads, calls, ends, returns, returns_int}
+use Rattle.thread_meaning.proofs.Normal.{Normal, normal}
 use Rattle.thread_meaning.proofs.Unique.{SameInstruction, one_method, one_instruction}
 
 -- both read, and lead to one state where they read the same
@@ -56,16 +58,16 @@ pub record SamePlace (m n : Method) (i j : Instr) (o q : Operand) : Type 0 where
   pub instr : i ≡ j
   pub names : o ≡ q
 
-pub same_place : (p : Prog) (a b : Activation) (m n : Method) (i j : Instr) (o q : Operand) → IsOrdered p → a ≡ b → IsMethod p a.method m → IsMethod p b.method n →
+pub same_place : (p : Prog) (a b : Activation) (m n : Method) (i j : Instr) (o q : Operand) → ((x : Method) → IsMethod p a.method x → m ≡ x) → IsByPc m.listing → a ≡ b → IsMethod p a.method m → IsMethod p b.method n →
     IsInstruction m a.pc i o → IsInstruction n b.pc j q → SamePlace m n i j o q
-same_place p a b m n i j o q ordered same is_m is_n at_m at_n = record { method = method; instr = instruction.instr; names = instruction.names }
+same_place p a b m n i j o q only by_pc same is_m is_n at_m at_n = record { method = method; instr = instruction.instr; names = instruction.names }
   where
     method : m ≡ n
-    method = one_method p a.method m n ordered.distinct is_m (subst (λ (x : Activation). IsMethod p x.method n) (sym same) is_n)
+    method = only n (subst (λ (x : Activation). IsMethod p x.method n) (sym same) is_n)
 
     instruction : SameInstruction i j o q
     instruction =
-        one_instruction m a.pc i j o q (ordered.by_pc m is_m.reached) at_m
+        one_instruction m a.pc i j o q by_pc at_m
         (subst (λ (x : Activation). IsInstruction m x.pc j q) (sym same) (subst (λ (x : Method). IsInstruction x b.pc j q) (sym method) at_n))
 
 -- no change by a read, a call or a return
@@ -86,7 +88,7 @@ returned_int_same c c' others others' i i' n n' cs os is ns =
     ap (λ (x : List Activation). record c' { pc = c'.pc + length_of i'; stack = Int n ∷ c'.stack } ∷ x) os ∙
     ap (λ (x : ℤ). record c' { pc = c'.pc + length_of i'; stack = Int x ∷ c'.stack } ∷ others') ns
 
-one_outcome : (p : Prog) (m : Method) (d : Doing) (behind : ℕ) (a : Activation) (callers : List Activation) (e f : Effect) (t u : List Activation) → IsOrdered p →
+one_outcome : (p : Prog) (m : Option ℕ) (d : Doing) (behind : ℕ) (a : Activation) (callers : List Activation) (e f : Effect) (t u : List Activation) → IsOrdered p →
     Outcome p m d behind a callers e t → Outcome p m d behind a callers f u → Alike e f t u
 one_outcome p m d behind a callers e f t u ordered (inside b h goes) (inside b' h' goes') = inl (ap (λ (c : Change). c.effect) same, goes ∙ ap (λ (c : Change). c.after ∷ callers) same ∙ sym goes')
   where
@@ -104,15 +106,17 @@ one_outcome p m d behind a callers e f t u ordered (ends does alone is goes) (en
 one_outcome p m d behind a callers e f t u ordered (returns caller others calling call called does under is_calling at is goes) (returns caller' others' calling' call' called' does' under' is_calling' at' is' goes') =
     let callers_same : caller ≡ caller' = cc in
     let others_same : others ≡ others' = cc in
-    let place = same_place p caller caller' calling calling' call call' called called' ordered callers_same is_calling is_calling' at at' in
+    let place = same_place p caller caller' calling calling' call call' called called' (λ x is_x. one_method p caller.method calling x ordered.distinct is_calling is_x) (ordered.by_pc calling is_calling.reached) callers_same is_calling is_calling' at at' in
     inl (is ∙ sym is', goes ∙ returned_same caller caller' others others' call call' callers_same others_same place.instr ∙ sym goes')
 one_outcome p m d behind a callers e f t u ordered (returns_int n below caller others calling call called does stack under is_calling at is goes) (returns_int n' below' caller' others' calling' call' called' does' stack' under' is_calling' at' is' goes') =
     let callers_same : caller ≡ caller' = cc in
     let others_same : others ≡ others' = cc in
     let ints_same : n ≡ n' = cc in
-    let place = same_place p caller caller' calling calling' call call' called called' ordered callers_same is_calling is_calling' at at' in
-    inl (is ∙ ap (λ (x : ℤ). record { event = option_map event.Unlock m.frame.monitor; ints = x ∷ []; backward = false }) ints_same ∙ sym is',
-    goes ∙ returned_int_same caller caller' others others' call call' n n' callers_same others_same place.instr ints_same ∙ sym goes')
+    let place = same_place p caller caller' calling calling' call call' called called' (λ x is_x. one_method p caller.method calling x ordered.distinct is_calling is_x) (ordered.by_pc calling is_calling.reached) callers_same is_calling is_calling' at at' in
+    inl (
+      is ∙ ap (λ (x : ℤ). record { event = option_map event.Unlock m; ints = x ∷ []; backward = false }) ints_same ∙ sym is',
+      goes ∙ returned_int_same caller caller' others others' call call' n n' callers_same others_same place.instr ints_same ∙ sym goes',
+    )
 one_outcome p m d behind a callers e f t u ordered (inside b h goes) (reads v' n' fits' does' is' goes') = absurd (no_change d _ behind a _ h does' refl)
 one_outcome p m d behind a callers e f t u ordered (inside b h goes) (calls id' called' arguments' rest' does' is_called' count' stack' is' goes') = absurd (no_change d _ behind a _ h does' refl)
 one_outcome p m d behind a callers e f t u ordered (inside b h goes) (ends does' alone' is' goes') = absurd (no_change d _ behind a _ h does' refl)
@@ -153,13 +157,13 @@ alike p k s t u e f ordered x y = go (normal p k s e t x) (normal p k s f u y)
         let stacks : m.top ∷ m.callers ≡ n.top ∷ n.callers = sym m.stands ∙ n.stands in
         let tops : m.top ≡ n.top = cc in
         let callers : m.callers ≡ n.callers = cc in
-        let place = same_place p m.top n.top m.method n.method m.instr n.instr m.names n.names ordered tops m.is_method n.is_method m.instruction n.instruction in
-        one_outcome p m.method (doing_of m.instr m.names) (m.top.pc + length_of m.instr) m.top m.callers e f t u ordered m.outcome
-        (subst (λ (c : List Activation). Outcome p m.method (doing_of m.instr m.names) (m.top.pc + length_of m.instr) m.top c f u) (sym callers)
-        (subst (λ (a : Activation). Outcome p m.method (doing_of m.instr m.names) (a.pc + length_of m.instr) a n.callers f u) (sym tops)
-        (subst (λ (o : Operand). Outcome p m.method (doing_of m.instr o) (n.top.pc + length_of m.instr) n.top n.callers f u) (sym place.names)
-        (subst (λ (i : Instr). Outcome p m.method (doing_of i n.names) (n.top.pc + length_of i) n.top n.callers f u) (sym place.instr)
-        (subst (λ (w : Method). Outcome p w (doing_of n.instr n.names) (n.top.pc + length_of n.instr) n.top n.callers f u) (sym place.method) n.outcome)))))
+        let place = same_place p m.top n.top m.method n.method m.instr n.instr m.names n.names (λ x is_x. one_method p m.top.method m.method x ordered.distinct m.is_method is_x) (ordered.by_pc m.method m.is_method.reached) tops m.is_method n.is_method m.instruction n.instruction in
+        one_outcome p m.method.frame.monitor (doing_of m.instr m.names) (m.top.pc + length_of m.instr) m.top m.callers e f t u ordered m.outcome
+        (subst (λ (c : List Activation). Outcome p m.method.frame.monitor (doing_of m.instr m.names) (m.top.pc + length_of m.instr) m.top c f u) (sym callers)
+        (subst (λ (a : Activation). Outcome p m.method.frame.monitor (doing_of m.instr m.names) (a.pc + length_of m.instr) a n.callers f u) (sym tops)
+        (subst (λ (o : Operand). Outcome p m.method.frame.monitor (doing_of m.instr o) (n.top.pc + length_of m.instr) n.top n.callers f u) (sym place.names)
+        (subst (λ (i : Instr). Outcome p m.method.frame.monitor (doing_of i n.names) (n.top.pc + length_of i) n.top n.callers f u) (sym place.instr)
+        (subst (λ (w : Method). Outcome p w.frame.monitor (doing_of n.instr n.names) (n.top.pc + length_of n.instr) n.top n.callers f u) (sym place.method) n.outcome)))))
 
 pub one_step : (p : Prog) (k : ℕ) (s t u : List Activation) (e f : Effect) → IsOrdered p → Step p k s e t → Step p k s f u → read_in e ≡ read_in f → (e ≡ f) × (t ≡ u)
 one_step p k s t u e f ordered x y same = go (alike p k s t u e f ordered x y)

@@ -129,7 +129,7 @@ by_print : (p : Prog) (k : ℕ) (a : Activation) (callers : List Activation) (i 
 by_print p k a callers i c at h = option_and_then_some _ (int_on a.stack) c h (λ t on more.
     option_and_then_some _ (below_out t.rest) c more (λ rest under is.
     by p k a callers _ c is (step.print i t.top rest
-        (executes p a callers i operand.Print (Int t.top ∷ Out ∷ rest) rest at (on_int a.stack t on ∙ ap (λ (s : List JavaValue). Int t.top ∷ s) (under_out t.rest rest under))) refl)))
+    (executes p a callers i operand.Print (Int t.top ∷ Out ∷ rest) rest at (on_int a.stack t on ∙ ap (λ (s : List JavaValue). Int t.top ∷ s) (under_out t.rest rest under))) refl)))
 
 by_discard : (p : Prog) (k : ℕ) (a : Activation) (callers : List Activation) (c : Change) → At p a instr.Pop operand.Nothing →
     discards a (a.pc + length_of instr.Pop) ≡ Some c → Steps p k a callers c
@@ -146,21 +146,21 @@ by_exchange : (p : Prog) (k : ℕ) (a : Activation) (callers : List Activation) 
 by_exchange p k a callers c at h = option_and_then_some _ (value_on a.stack) c h (λ t on more.
     option_and_then_some _ (value_on t.rest) c more (λ u on_u is.
     by p k a callers _ c is (step.swaps u.top t.top u.rest
-        (executes p a callers instr.Swap operand.Nothing (t.top ∷ u.top ∷ u.rest) (u.top ∷ t.top ∷ u.rest) at (on_value a.stack t on ∙ ap (λ (s : List JavaValue). t.top ∷ s) (on_value t.rest u on_u))) refl)))
+    (executes p a callers instr.Swap operand.Nothing (t.top ∷ u.top ∷ u.rest) (u.top ∷ t.top ∷ u.rest) at (on_value a.stack t on ∙ ap (λ (s : List JavaValue). t.top ∷ s) (on_value t.rest u on_u))) refl)))
 
 by_load_int : (p : Prog) (k : ℕ) (a : Activation) (callers : List Activation) (i : Instr) (slot : ℕ) (c : Change) → int_load_of i ≡ Some slot → At p a i operand.Nothing →
     loads_int a (a.pc + length_of i) slot ≡ Some c → Steps p k a callers c
 by_load_int p k a callers i slot c loads at h = option_and_then_some _ (int_in a slot) c h (λ n int is.
     option_and_then_some _ (local_of a slot) n int (λ v local of.
     by p k a callers _ c is (step.loads_int i slot n a.stack loads (executes p a callers i operand.Nothing a.stack (Int n ∷ a.stack) at refl)
-        (is_held (slice_get a.locals slot) v local ∙ ap (λ (w : JavaValue). Some (Some w)) (is_int v n of)) refl)))
+    (is_held (slice_get a.locals slot) v local ∙ ap (λ (w : JavaValue). Some (Some w)) (is_int v n of)) refl)))
 
 by_load_reference : (p : Prog) (k : ℕ) (a : Activation) (callers : List Activation) (i : Instr) (slot : ℕ) (c : Change) → reference_load_of i ≡ Some slot → At p a i operand.Nothing →
     loads_reference a (a.pc + length_of i) slot ≡ Some c → Steps p k a callers c
 by_load_reference p k a callers i slot c loads at h = option_and_then_some _ (local_of a slot) c h (λ v local more.
     let y = passed (is_reference v) _ c more in
     by_same p k a callers _ c y.is (step.loads_reference i slot v a.stack loads (refers v y.passes) (executes p a callers i operand.Nothing a.stack (v ∷ a.stack) at refl)
-        (is_held (slice_get a.locals slot) v local) refl))
+    (is_held (slice_get a.locals slot) v local) refl))
 
 abbrev storing : (p : Prog) (a : Activation) (callers : List Activation) (i : Instr) (slot : ℕ) (v : JavaValue) (before after : List JavaValue) → At p a i operand.Nothing →
     a.stack ≡ before → nat_lt slot (length a.locals) ≡ true →
@@ -184,7 +184,7 @@ by_store_reference p k a callers i slot c at_slot at h = option_and_then_some _ 
     go t on true is more =
         let y = passed (nat_lt slot (length a.locals)) _ c more in
         by_same p k a callers _ c y.is (step.stores_reference i slot t.top t.rest at_slot (refers t.top (sym is))
-            (storing p a callers i slot t.top (t.top ∷ t.rest) t.rest at (on_value a.stack t on) y.passes) refl)
+        (storing p a callers i slot t.top (t.top ∷ t.rest) t.rest at (on_value a.stack t on) y.passes) refl)
     go t on false is more = absurd (none-some c more)
 
 by_increment : (p : Prog) (k : ℕ) (a : Activation) (callers : List Activation) (slot : ℕ) (delta : ℤ) (c : Change) → At p a (instr.Iinc slot delta) operand.Nothing →
@@ -193,7 +193,7 @@ by_increment p k a callers slot delta c at h = option_and_then_some _ (int_in a 
     option_and_then_some _ (local_of a slot) n int (λ v local of.
     let y = passed (nat_lt slot (length a.locals)) _ c more in
     by_same p k a callers _ c y.is (step.increments slot delta n a.stack (storing p a callers (instr.Iinc slot delta) slot (Int (add_of n delta)) a.stack a.stack at refl y.passes)
-        (is_held (slice_get a.locals slot) v local ∙ ap (λ (w : JavaValue). Some (Some w)) (is_int v n of)) refl)))
+    (is_held (slice_get a.locals slot) v local ∙ ap (λ (w : JavaValue). Some (Some w)) (is_int v n of)) refl)))
 
 by_unary : (p : Prog) (k : ℕ) (a : Activation) (callers : List Activation) (i : Instr) (u : Unary) (c : Change) → unary_of i ≡ Some (unary_op u) → At p a i operand.Nothing →
     applies_unary a (a.pc + length_of i) u ≡ Some c → Steps p k a callers c
@@ -205,8 +205,8 @@ by_binary : (p : Prog) (k : ℕ) (a : Activation) (callers : List Activation) (i
 by_binary p k a callers i b c is_binary at h = option_and_then_some _ (int_on a.stack) c h (λ t on more.
     option_and_then_some _ (int_on t.rest) c more (λ u on_u is.
     by p k a callers _ c is (step.binary i (binary_op b) u.top t.top u.rest is_binary
-        (executes p a callers i operand.Nothing (Int t.top ∷ Int u.top ∷ u.rest) (Int (binary_op b u.top t.top) ∷ u.rest) at
-        (on_int a.stack t on ∙ ap (λ (s : List JavaValue). Int t.top ∷ s) (on_int t.rest u on_u))) refl)))
+    (executes p a callers i operand.Nothing (Int t.top ∷ Int u.top ∷ u.rest) (Int (binary_op b u.top t.top) ∷ u.rest) at
+    (on_int a.stack t on ∙ ap (λ (s : List JavaValue). Int t.top ∷ s) (on_int t.rest u on_u))) refl)))
 
 -- a jump, with its condition tested
 is_natural : (z : ℤ) (n : ℕ) → natural_of z ≡ Some n → pos n ≡ z
@@ -219,7 +219,7 @@ by_branch : (p : Prog) (k : ℕ) (a : Activation) (callers : List Activation) (i
 by_branch p k a callers i t distance before rest true c is_condition is_jump tests at is h =
     option_and_then_some _ (natural_of (pos a.pc +ℤ distance)) c h (λ target there same.
     by p k a callers _ c same (step.jumps i t before rest target is_condition tests
-        (record { next = next_at p a callers i operand.Nothing at; stack = is; distance = distance; jumps = is_jump; target_is = is_natural (pos a.pc +ℤ distance) target there; goes = refl }) refl))
+    (record { next = next_at p a callers i operand.Nothing at; stack = is; distance = distance; jumps = is_jump; target_is = is_natural (pos a.pc +ℤ distance) target there; goes = refl }) refl))
 by_branch p k a callers i t distance before rest false c is_condition is_jump tests at is h =
     by p k a callers _ c h (step.stays i t before rest is_condition tests (executes p a callers i operand.Nothing before rest at is) refl)
 
@@ -229,11 +229,11 @@ by_jump p k a callers i test.Always distance c is_condition is_jump at h =
     by_branch p k a callers i (condition test.Always) distance a.stack a.stack true c is_condition is_jump (step.always refl refl) at refl h
 by_jump p k a callers i (test.WithZero x) distance c is_condition is_jump at h = option_and_then_some _ (int_on a.stack) c h (λ t on more.
     by_branch p k a callers i (condition (test.WithZero x)) distance (Int t.top ∷ t.rest) t.rest (compares x t.top (pos 0)) c is_condition is_jump
-        (step.one (λ n. compares x n (pos 0)) t.top refl refl) at (on_int a.stack t on) more)
+    (step.one (λ n. compares x n (pos 0)) t.top refl refl) at (on_int a.stack t on) more)
 by_jump p k a callers i (test.OfTwo x) distance c is_condition is_jump at h = option_and_then_some _ (int_on a.stack) c h (λ t on more.
     option_and_then_some _ (int_on t.rest) c more (λ u on_u last.
     by_branch p k a callers i (condition (test.OfTwo x)) distance (Int t.top ∷ Int u.top ∷ u.rest) u.rest (compares x u.top t.top) c is_condition is_jump
-        (step.two (λ m n. compares x m n) u.top t.top refl refl) at (on_int a.stack t on ∙ ap (λ (s : List JavaValue). Int t.top ∷ s) (on_int t.rest u on_u)) last))
+    (step.two (λ m n. compares x m n) u.top t.top refl refl) at (on_int a.stack t on ∙ ap (λ (s : List JavaValue). Int t.top ∷ s) (on_int t.rest u on_u)) last))
 
 -- ---- References that are taken
 

@@ -17,7 +17,7 @@ pairs_at R xs i j x y all at_i at_j lt =
     (subst (λ u. R u (get_or xs j x)) (get_or_from_slice_get xs i x x at_i) (all i j x lt (slice_get_within xs j y at_j)))
 
 -- of two places with elements that stand in no such relation, one is the other
-one_place : {X : Type 0} (R : X → X → Type 0) (xs : List X) (i j : ℕ) (x y : X) → AllPairs R xs → slice_get xs i ≡ Some x → slice_get xs j ≡ Some y →
+pub one_place : {X : Type 0} (R : X → X → Type 0) (xs : List X) (i j : ℕ) (x y : X) → AllPairs R xs → slice_get xs i ≡ Some x → slice_get xs j ≡ Some y →
     (R x y → ⊥) → (R y x → ⊥) → i ≡ j
 one_place R xs i j x y all at_i at_j not_before not_behind = elim (cases_lt i j) [
   | inl lt ↦ absurd (not_before (pairs_at R xs i j x y all at_i at_j lt))

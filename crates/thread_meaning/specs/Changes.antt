@@ -1,5 +1,5 @@
 -- What a step changes inside the frame in which it runs, where it has what it needs (JVMS 6.5).
-use Rattle.std.specs.Prelude.{◌≡◌, ℕ, ℤ, pos, negsuc, Bool, true, false, List, [], ◌∷◌, Option, Some, None, Result, Ok, Err, length, nat_eq, nat_le, nat_lt, slice_get, slice_set, if◌then◌else◌, ◌+ℤ◌}
+use Rattle.std.specs.Prelude.{◌≡◌, ℕ, ℤ, pos, negsuc, Bool, true, false, List, [], ◌∷◌, Option, Some, None, Result, Ok, Err, length, nat_eq, nat_le, nat_lt, slice_get, slice_set, if◌then◌else◌, ◌+ℤ◌, ◌<◌, ◌++◌, map, reverse}
 use Rattle.std.specs.Option.{option_and_then}
 use Rattle.java_int.specs.JavaInt.{add_of}
 use Rattle.program.specs.Step.{JavaValue, Activation, Effect, silent, pushes, shows, moves_values, jump_effect, Int, Out, Monitor, Object}
@@ -177,3 +177,18 @@ Makes o (Err _) after = ⊥
 -- a frame as the activation of its method
 abbrev pub activation_of : Frame → Activation
 activation_of f = record { method = f.method; pc = f.pc; locals = f.locals.items; stack = f.stack }
+
+-- ---- Arguments
+
+-- these values were taken from a stack as this many arguments, the first of them the lowest
+pub record AreArguments (count : ℕ) (locals : List (Option JavaValue)) (before after : List JavaValue) : Type 0 where
+  pub arguments : List JavaValue
+  pub locals_are : locals ≡ map Some arguments
+  pub count_is : length arguments ≡ count
+  pub stack : before ≡ reverse arguments ++ after
+
+-- the stack has fewer values; want of memory alone is free
+abbrev pub CannotTake : ℕ → List JavaValue → TraceEnd → Type 0
+CannotTake count stack end.NotLinked = length stack < count
+CannotTake count stack end.Memory = Unit {0}
+CannotTake count stack _ = ⊥

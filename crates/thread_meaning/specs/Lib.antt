@@ -2,5 +2,6 @@ pub mod Changes
 pub mod Doings
 pub mod Effects
 pub mod Laws
+pub mod Outcomes
 pub mod Paths
 pub mod Values

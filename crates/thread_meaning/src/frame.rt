@@ -43,7 +43,7 @@ impl Frame {
     fn go_on_with(&mut self, behind: u64, value: Value, effect: Effect) -> Result<Effect, TraceEnd>
         ensures { Makes (Some (goes_on (activation_of self.old) behind (value ∷ self.old.stack) effect)) result (activation_of self.new) }
     {
-        self.stack.push(value).map_err(|_| TraceEnd::Memory)?;
+        self.stack.push(value)?;
         self.pc = behind;
         Ok(effect)
     }
@@ -104,7 +104,7 @@ impl Frame {
         ensures { Makes (doubles (activation_of self.old) behind) result (activation_of self.new) }
     {
         let value = self.stack.pop()?;
-        self.stack.push(value).map_err(|_| TraceEnd::Memory)?;
+        self.stack.push(value)?;
         self.go_on_with(behind, value, Effect::of_value(&value))
     }
 
@@ -114,7 +114,7 @@ impl Frame {
     {
         let upper = self.stack.pop()?;
         let lower = self.stack.pop()?;
-        self.stack.push(upper).map_err(|_| TraceEnd::Memory)?;
+        self.stack.push(upper)?;
         self.go_on_with(behind, lower, Effect::of_values(&lower, &upper))
     }
 

@@ -1,19 +1,24 @@
 //! The meaning of a thread: the one run that it has for the values of its reads (docs/MODEL.md, "Programs and runs").
 #![tactic(auto)]
 
+mod code;
 mod decoding;
 mod doing;
 mod effect;
 mod end;
 mod frame;
+mod frames;
 pub mod laws;
 mod stack;
+mod steps;
 mod value;
 
+pub use code::{Here, look, method_of};
 pub use decoding::what_it_does;
 pub use doing::{Binary, Comparison, Doing, Test, Unary};
 pub use effect::Effect;
 pub use end::TraceEnd;
 pub use frame::Frame;
+pub use frames::Frames;
 pub use stack::Stack;
 pub use value::Value;

@@ -1,11 +1,10 @@
 //! The operand stack of a frame.
 
-ghost use Rattle.std.specs.Prelude.{◌≡◌, [], ◌∷◌, Some, None, IfOk, IfErr, OnOk, OnErr};
-ghost use Rattle.thread_meaning.specs.Changes.{value_on, int_on, monitor_on, object_on, below_out};
+ghost use Rattle.std.specs.Prelude.{◌≡◌, [], ◌∷◌, Some, None, IfOk, IfErr, OnOk};
+ghost use Rattle.thread_meaning.specs.Changes.{value_on, int_on, monitor_on, object_on, below_out, AreArguments, CannotTake};
 
 use crate::end::TraceEnd;
 use crate::value::Value;
-use ports::Memory;
 use std::alloc::Global;
 use std::marker::Model;
 
@@ -34,12 +33,12 @@ impl Stack {
         }
     }
 
-    /// Puts a value on top. Where memory is short, the stack is unchanged.
-    pub fn push(&mut self, item: Value) -> Result<(), Memory>
+    /// Puts a value on top.
+    pub fn push(&mut self, item: Value) -> Result<(), TraceEnd>
         ensures ok { OnOk result (self.new ≡ item ∷ self.old) }
-        ensures err { OnErr result (self.new ≡ self.old) }
+        ensures err { IfErr result (λ e. e ≡ TraceEnd.Memory) }
     {
-        self.items.push(item).map_err(|_| Memory)
+        self.items.push(item).map_err(|_| TraceEnd::Memory)
     }
 
     /// Takes the top value.
@@ -72,6 +71,24 @@ impl Stack {
         ensures err { IfErr result (λ e. (e ≡ TraceEnd.NotLinked) × (object_on self.old ≡ None)) }
     {
         self.pop()?.as_object().ok_or(TraceEnd::NotLinked)
+    }
+
+    /// Takes this many values as arguments of a method, the first of them being the lowest.
+    pub fn pop_arguments(
+        &mut self,
+        alloc: Global,
+        count: u32,
+    ) -> Result<Vec<Option<Value>>, TraceEnd>
+        ensures ok { IfOk result (λ locals. AreArguments count locals.items self.old self.new) }
+        ensures err { IfErr result (CannotTake count self.old) }
+    {
+        let mut locals = Vec::new(alloc);
+        for _ in 0..count {
+            let value = self.pop()?;
+            locals.push(Some(value)).map_err(|_| TraceEnd::Memory)?;
+        }
+        locals.reverse();
+        Ok(locals)
     }
 
     /// Takes the object of `System.out` on top.
