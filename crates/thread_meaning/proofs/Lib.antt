@@ -6,4 +6,5 @@ pub mod OneStep
 pub mod Running
 pub mod Runs
 pub mod Sound
+pub mod Stepping
 pub mod Unique
