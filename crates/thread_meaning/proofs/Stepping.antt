@@ -118,29 +118,79 @@ outcome_is_step p k m i o a callers e t is_m at (inside b h goes) =
 outcome_is_step p k m i o a callers e t is_m at (reads v n fits does is goes) =
     let r = is_read i o v does in
     step.read r.index v n a.stack fits
-    (record { top = a; callers = callers; stands = refl; method = m; is_method = is_m; instruction = instruction_is m a.pc i (instr.Getstatic r.index) o (operand.Variable v) r.instr r.names at; stack = refl;
-      next = goes ∙ ap (λ (x : Instr). record a { pc = a.pc + length_of x; stack = Int n ∷ a.stack } ∷ callers) r.instr }) is
+    (record {
+      top = a;
+      callers = callers;
+      stands = refl;
+      method = m;
+      is_method = is_m;
+      instruction = instruction_is m a.pc i (instr.Getstatic r.index) o (operand.Variable v) r.instr r.names at;
+      stack = refl;
+      next = goes ∙ ap (λ (x : Instr). record a { pc = a.pc + length_of x; stack = Int n ∷ a.stack } ∷ callers) r.instr;
+    }) is
 outcome_is_step p k m i o a callers e t is_m at (calls id called arguments rest does is_called count stack is goes) =
     let r = is_call i o id does in
     step.calls called arguments
-    (record { index = r.index;
-      next = record { top = a; callers = callers; stands = refl; method = m; is_method = is_m;
-        instruction = instruction_is m a.pc i (instr.Invokestatic r.index) o (operand.Method called.id) r.instr (r.names ∙ ap operand.Method (sym is_called.named)) at };
-      is_called = record { reached = is_called.reached; named = refl }; count = count; rest = rest; stack = stack; enters = goes }) is
+    (record {
+      index = r.index;
+      next = record {
+        top = a;
+        callers = callers;
+        stands = refl;
+        method = m;
+        is_method = is_m;
+        instruction = instruction_is m a.pc i (instr.Invokestatic r.index) o (operand.Method called.id) r.instr (r.names ∙ ap operand.Method (sym is_called.named)) at;
+      };
+      is_called = record { reached = is_called.reached; named = refl };
+      count = count;
+      rest = rest;
+      stack = stack;
+      enters = goes;
+    }) is
 outcome_is_step p k m i o a callers e t is_m at (ends does alone is goes) =
     let r = is_return i o does in
-    step.returned (record { top = a; stands = ap (λ (x : List Activation). a ∷ x) alone; method = m; is_method = is_m;
-      instruction = instruction_is m a.pc i instr.Return o operand.Nothing r.0 r.1 at; ends = goes }) is
+    step.returned (record {
+      top = a;
+      stands = ap (λ (x : List Activation). a ∷ x) alone;
+      method = m;
+      is_method = is_m;
+      instruction = instruction_is m a.pc i instr.Return o operand.Nothing r.0 r.1 at;
+      ends = goes;
+    }) is
 outcome_is_step p k m i o a callers e t is_m at (returns caller others calling call called does under is_calling at_call is goes) =
     let r = is_return i o does in
-    step.returns_nothing a.stack m (record { top = a; caller = caller; callers = others; stands = ap (λ (x : List Activation). a ∷ x) under; is_method = is_m;
-      instruction = instruction_is m a.pc i instr.Return o operand.Nothing r.0 r.1 at; stack_is = refl; calling = calling; is_calling = is_calling; call = call; called = called;
-      is_call = at_call; next = goes }) is
+    step.returns_nothing a.stack m (record {
+      top = a;
+      caller = caller;
+      callers = others;
+      stands = ap (λ (x : List Activation). a ∷ x) under;
+      is_method = is_m;
+      instruction = instruction_is m a.pc i instr.Return o operand.Nothing r.0 r.1 at;
+      stack_is = refl;
+      calling = calling;
+      is_calling = is_calling;
+      call = call;
+      called = called;
+      is_call = at_call;
+      next = goes;
+    }) is
 outcome_is_step p k m i o a callers e t is_m at (returns_int n below caller others calling call called does stack under is_calling at_call is goes) =
     let r = is_return_int i o does in
-    step.returns_int n below m (record { top = a; caller = caller; callers = others; stands = ap (λ (x : List Activation). a ∷ x) under; is_method = is_m;
-      instruction = instruction_is m a.pc i instr.Ireturn o operand.Nothing r.0 r.1 at; stack_is = stack; calling = calling; is_calling = is_calling; call = call; called = called;
-      is_call = at_call; next = goes }) is
+    step.returns_int n below m (record {
+      top = a;
+      caller = caller;
+      callers = others;
+      stands = ap (λ (x : List Activation). a ∷ x) under;
+      is_method = is_m;
+      instruction = instruction_is m a.pc i instr.Ireturn o operand.Nothing r.0 r.1 at;
+      stack_is = stack;
+      calling = calling;
+      is_calling = is_calling;
+      call = call;
+      called = called;
+      is_call = at_call;
+      next = goes;
+    }) is
 
 -- ---- Steps are outcomes
 
@@ -187,9 +237,15 @@ acts_at p m i o a callers s read (Err end.NotLinked) t stands is_m only by_pc at
     let r = is_call i o running.0 running.1 in
     inr (record { instr = i; id = running.0; next = next_is p m i o (operand.Method running.0) a callers s stands is_m at r.names; running = subst (λ (x : List Activation). IsRunning x running.0) (sym stands) running.2 })
 acts_at p m i o a callers s read (Err end.ReadsShort) t stands is_m only by_pc at low short =
-    let r = is_read i o short.1.0 short.1.1 in
-    (short.0, record { instr = i; variable = short.1.0; next = next_is p m i o (operand.Variable short.1.0) a callers s stands is_m at r.names;
-      reads = ap (λ (q : Operand). doing_of i q) (sym r.names) ∙ short.1.1 })
+    let r = is_read i o short.1.0 short.1.1 in (
+      short.0,
+      record {
+        instr = i;
+        variable = short.1.0;
+        next = next_is p m i o (operand.Variable short.1.0) a callers s stands is_m at r.names;
+        reads = ap (λ (q : Operand). doing_of i q) (sym r.names) ∙ short.1.1;
+      },
+    )
 acts_at p m i o a callers s read (Err end.Memory) t stands is_m only by_pc at low h = tt
 acts_at p m i o a callers s read (Err (end.ReadsLeft n)) t stands is_m only by_pc at low h = absurd h
 acts_at p m i o a callers s read (Err end.PastJumps) t stands is_m only by_pc at low h = absurd h

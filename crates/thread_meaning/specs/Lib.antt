@@ -4,4 +4,5 @@ pub mod Effects
 pub mod Laws
 pub mod Outcomes
 pub mod Paths
+pub mod Tracing
 pub mod Values
