@@ -1,6 +1,7 @@
 pub mod Acting
 mod Applied
 pub mod Looking
+pub mod Measure
 pub mod Normal
 pub mod OneStep
 pub mod Running

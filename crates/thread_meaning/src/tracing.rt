@@ -29,7 +29,7 @@ pub fn trace(
     ensures err { IfErr result (IsRefused program.now thread reads.now bounds.now) }
 {
     let mut walk = begin(alloc, program, thread, bounds)?;
-    while !walk.frames.is_empty() {
+    'steps: while !walk.frames.is_empty() {
         walk.advance(alloc, program, reads, bounds)?;
     }
     walk.finish(reads.len())

@@ -1,6 +1,6 @@
 //! The walk along the run of a thread.
 
-ghost use Rattle.std.specs.Prelude.{◌≡◌, ◌≢◌, ◌<◌, ◌≤◌, [], length, IfOk, IfErr, OnOk};
+ghost use Rattle.std.specs.Prelude.{◌≡◌, ◌≢◌, ◌<◌, ◌≤◌, ◌+◌, [], length, slice_get, if◌then◌else◌, IsTrue, IfOk, IfErr, OnOk};
 ghost use Rattle.line_text.specs.Bounds.{IsBounds};
 ghost use Rattle.program.specs.Step.{entered_with, parameters_of};
 ghost use Rattle.thread_meaning.specs.Changes.{activation_of};
@@ -86,6 +86,27 @@ pub fn begin(
     })
 }
 
+/// The value for the next read, if one is left.
+fn next_read(reads: &[i32], used: usize) -> Option<i32>
+    ensures { result ≡ slice_get reads.now used }
+{
+    reads.get(used).copied()
+}
+
+/// How many backward jumps are left behind a step.
+fn jumps_behind(jumps: u32, backward: bool) -> Result<u32, TraceEnd>
+    ensures ok { IfOk result (λ left. left + (if backward then 1 else 0) ≡ jumps) }
+    ensures err { IfErr result (λ e. (e ≡ TraceEnd.PastJumps) × IsTrue backward × (jumps ≡ 0)) }
+{
+    if !backward {
+        return Ok(jumps);
+    }
+    if jumps == 0 {
+        return Err(TraceEnd::PastJumps);
+    }
+    Ok(jumps - 1)
+}
+
 impl Walk {
     /// Notes what a step did.
     fn note(&mut self, effect: &Effect) -> Result<(), TraceEnd>
@@ -118,18 +139,12 @@ impl Walk {
         ensures ok { OnOk result (Advances program.now reads.now bounds.now self.old self.new) }
         ensures err { IfErr result (Stops program.now reads.now bounds.now self.old) }
     {
-        let effect = self
-            .frames
-            .step(alloc, program, reads.get(self.used).copied())?;
+        let read = next_read(reads, self.used);
+        let effect = self.frames.step(alloc, program, read)?;
         if !effect.fits(bounds.width) {
             return Err(TraceEnd::PastWidth);
         }
-        if effect.is_backward() {
-            if self.jumps == 0 {
-                return Err(TraceEnd::PastJumps);
-            }
-            self.jumps -= 1;
-        }
+        self.jumps = jumps_behind(self.jumps, effect.is_backward())?;
         self.note(&effect)
     }
 
