@@ -8,4 +8,5 @@ pub mod Running
 pub mod Runs
 pub mod Sound
 pub mod Stepping
+pub mod UnderWay
 pub mod Unique
