@@ -1,5 +1,6 @@
 pub mod Acting
 mod Applied
+pub mod Exact
 pub mod Looking
 pub mod Measure
 pub mod Normal

@@ -36,7 +36,7 @@ peel None xs ys left h = h
 peel (Some n) xs ys left h = cc
 
 -- the first steps of two lists with these reads are equal
-same_first : (p : Prog) (k : ℕ) (s : List Activation) (m o : Move) (xs ys left : List ℤ) → IsOrdered p → Step p k s m.effect m.state → Step p k s o.effect o.state →
+pub same_first : (p : Prog) (k : ℕ) (s : List Activation) (m o : Move) (xs ys left : List ℤ) → IsOrdered p → Step p k s m.effect m.state → Step p k s o.effect o.state →
     cons_option (read_in o.effect) xs ≡ cons_option (read_in m.effect) ys ++ left → (m.effect ≡ o.effect) × (m.state ≡ o.state)
 same_first p k s m o xs ys left ordered one other reads = go (alike p k s m.state o.state m.effect o.effect ordered one other)
   where

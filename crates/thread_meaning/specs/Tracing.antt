@@ -86,6 +86,17 @@ IsRefused p k reads bounds end.PastWidth = IsPastWidth p k reads bounds
 IsRefused p k reads bounds end.NotLinked = IsNotLinked p k reads bounds
 IsRefused p k reads bounds end.Memory = Unit {0}
 
+-- no state of these moves runs a method twice
+abbrev pub NeverTwice : List Move → Type 0
+NeverTwice moves = All (λ m. NoneTwice m.state) moves
+
+-- a run in bounds that calls no method within itself
+pub record HasPlainRun (p : Prog) (k : ℕ) (reads : List ℤ) (bounds : Bounds) (events : List Event) (printed : List ℤ) : Type 0 where
+  pub moves : List Move
+  pub run : IsRun p k moves reads events printed
+  pub in_bounds : InBounds moves bounds.jumps bounds.width
+  pub never_twice : NeverTwice moves
+
 -- ---- The walk along the run
 
 -- the value that a step prints, if it prints one
