@@ -46,7 +46,7 @@ few_frames [] ids none known = omega arith
 few_frames (a ∷ s) ids none known =
     let w = without ids a.method (known a.method (contains_here a.method (map (λ (x : Activation). x.method) s))) in
     let fewer = few_frames s w.rest none.1
-        (λ id running. w.keeps id (known id (contains_later a.method id (map (λ (x : Activation). x.method) s) running)) (λ same. none.0 (subst (IsRunning s) same running))) in
+    (λ id running. w.keeps id (known id (contains_later a.method id (map (λ (x : Activation). x.method) s) running)) (λ same. none.0 (subst (IsRunning s) same running))) in
     omega (arith, fewer, w.count)
 
 -- ---- The methods that are run are the program's

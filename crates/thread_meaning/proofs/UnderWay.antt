@@ -182,14 +182,25 @@ stops p k reads bounds w end.ReadsShort u some h =
     record { moves = u.moves; state = w.frames; arrives = with_left p k reads bounds u.moves w.frames (drop w.used reads) [] (all_used reads w.used u.used h.0) (arrives p k reads bounds w u); next = h.1 }
 stops p k reads bounds w (end.ReadsLeft count) u some h = absurd h
 stops p k reads bounds w end.PastJumps u some h = record {
-  moves = u.moves; state = w.frames; left = drop (w.used + length (list_of (read_in h.effect))) reads; effect = h.effect; next = h.next;
+  moves = u.moves;
+  state = w.frames;
+  left = drop (w.used + length (list_of (read_in h.effect))) reads;
+  effect = h.effect;
+  next = h.next;
   arrives = with_left p k reads bounds u.moves w.frames (drop w.used reads) _ (splits_at p reads w.used w.frames h.next h.effect u.used h.stepped) (arrives p k reads bounds w u);
-  step = h.stepped.step k; backward = h.backward; used = omega (arith, u.jumps, h.used);
+  step = h.stepped.step k;
+  backward = h.backward;
+  used = omega (arith, u.jumps, h.used);
 }
 stops p k reads bounds w end.PastWidth u some h = record {
-  moves = u.moves; state = w.frames; left = drop (w.used + length (list_of (read_in h.effect))) reads; effect = h.effect; next = h.next;
+  moves = u.moves;
+  state = w.frames;
+  left = drop (w.used + length (list_of (read_in h.effect))) reads;
+  effect = h.effect;
+  next = h.next;
   arrives = with_left p k reads bounds u.moves w.frames (drop w.used reads) _ (splits_at p reads w.used w.frames h.next h.effect u.used h.stepped) (arrives p k reads bounds w u);
-  step = h.stepped.step k; wide = h.wide;
+  step = h.stepped.step k;
+  wide = h.wide;
 }
 stops p k reads bounds w end.NotLinked u some (inl none) = no_step u.moves w.frames (drop w.used reads) (arrives p k reads bounds w u) some (none k)
 stops p k reads bounds w end.NotLinked u some (inr itself) = within u.moves w.frames (drop w.used reads) (arrives p k reads bounds w u) itself
@@ -217,9 +228,11 @@ ends_run p k reads bounds w t u ended f = record {
 
 pub ends_left : (p : Prog) (k : ℕ) (reads : List ℤ) (bounds : Bounds) (w : Walk) (e : TraceEnd) → UnderWay p k reads bounds w → w.frames ≡ [] → Ends (length reads) w e → IsRefused p k reads bounds e
 ends_left p k reads bounds w (end.ReadsLeft count) u ended h = record {
-  moves = u.moves; left = drop w.used reads;
+  moves = u.moves;
+  left = drop w.used reads;
   arrives = subst (λ (s : List Activation). Arrives p k reads bounds u.moves s (drop w.used reads)) ended (arrives p k reads bounds w u);
-  count_is = omega (arith, length-drop w.used reads, h.0, h.1); some = omega (arith, h.0, h.1);
+  count_is = omega (arith, length-drop w.used reads, h.0, h.1);
+  some = omega (arith, h.0, h.1);
 }
 ends_left p k reads bounds w end.Memory u ended h = tt
 ends_left p k reads bounds w end.ReadsShort u ended h = absurd h
