@@ -1,6 +1,6 @@
 //! Frames of methods, and the steps inside one (JVMS 3.6 and 6.5).
 
-ghost use Rattle.std.specs.Prelude.{◌≡◌, ◌∷◌, Some, None, IfOk, IfErr, pos, ◌+ℤ◌};
+ghost use Rattle.std.specs.Prelude.{◌≡◌, [], ◌∷◌, Some, None, IfOk, IfErr, pos, ◌+ℤ◌};
 ghost use Rattle.thread_meaning.specs.Changes.{natural_of};
 
 use crate::doing::{Binary, Doing, Test, Unary};
@@ -29,6 +29,7 @@ fn target(pc: u32, distance: i16) -> Option<u64>
 }
 
 impl Frame {
+    ghost use Rattle.program.specs.Step.{shows};
     ghost use Rattle.thread_meaning.specs.Changes.{Makes, activation_of, goes_on, local_of, int_in, stores, branches, jumps, takes_monitor, takes_object, writes, prints, discards, doubles, exchanges, loads_int, loads_reference, stores_int, stores_reference, increments, applies_unary, applies_binary, change_of};
 
     /// The next instruction comes.
@@ -71,6 +72,38 @@ impl Frame {
             return Err(TraceEnd::NotLinked);
         }
         self.go_on(behind, effect)
+    }
+
+    /// Takes the class object of this monitor, and locks it.
+    fn lock(&mut self, behind: u64, monitor: u32) -> Result<Effect, TraceEnd>
+        ensures { Makes (takes_monitor (activation_of self.old) behind monitor (shows (Event.Lock monitor) [])) result (activation_of self.new) }
+    {
+        let event = Event::Lock { monitor };
+        self.take_monitor(behind, monitor, Effect::of_event(Some(event)))
+    }
+
+    /// Takes the class object of this monitor, and unlocks it.
+    fn unlock(&mut self, behind: u64, monitor: u32) -> Result<Effect, TraceEnd>
+        ensures { Makes (takes_monitor (activation_of self.old) behind monitor (shows (Event.Unlock monitor) [])) result (activation_of self.new) }
+    {
+        let event = Event::Unlock { monitor };
+        self.take_monitor(behind, monitor, Effect::of_event(Some(event)))
+    }
+
+    /// Takes the object of this thread, and starts it.
+    fn start(&mut self, behind: u64, thread: u32) -> Result<Effect, TraceEnd>
+        ensures { Makes (takes_object (activation_of self.old) behind thread (shows (Event.Start thread) [])) result (activation_of self.new) }
+    {
+        let event = Event::Start { thread };
+        self.take_object(behind, thread, Effect::of_event(Some(event)))
+    }
+
+    /// Takes the object of this thread, and detects its end.
+    fn join(&mut self, behind: u64, thread: u32) -> Result<Effect, TraceEnd>
+        ensures { Makes (takes_object (activation_of self.old) behind thread (shows (Event.Detect thread) [])) result (activation_of self.new) }
+    {
+        let event = Event::Detect { thread };
+        self.take_object(behind, thread, Effect::of_event(Some(event)))
     }
 
     /// Takes an int and writes it to a variable.
@@ -267,35 +300,11 @@ impl Frame {
                 Effect::of_int(None, value),
             ),
             Doing::Put(value) => self.go_on_with(behind, value, Effect::silent()),
-            Doing::Lock(monitor) => {
-                self.take_monitor(
-                    behind,
-                    monitor,
-                    Effect::of_event(Some(Event::Lock { monitor })),
-                )
-            }
-            Doing::Unlock(monitor) => {
-                self.take_monitor(
-                    behind,
-                    monitor,
-                    Effect::of_event(Some(Event::Unlock { monitor })),
-                )
-            }
+            Doing::Lock(monitor) => self.lock(behind, monitor),
+            Doing::Unlock(monitor) => self.unlock(behind, monitor),
             Doing::Construct(thread) => self.take_object(behind, thread, Effect::silent()),
-            Doing::Start(thread) => {
-                self.take_object(
-                    behind,
-                    thread,
-                    Effect::of_event(Some(Event::Start { thread })),
-                )
-            }
-            Doing::Join(thread) => {
-                self.take_object(
-                    behind,
-                    thread,
-                    Effect::of_event(Some(Event::Detect { thread })),
-                )
-            }
+            Doing::Start(thread) => self.start(behind, thread),
+            Doing::Join(thread) => self.join(behind, thread),
             Doing::Write(variable) => self.write(behind, variable),
             Doing::Print => self.print(behind),
             Doing::Nothing => self.go_on(behind, Effect::silent()),

@@ -353,24 +353,21 @@ fn calls(rt: HostRuntime) -> Result<(), Fail> {
     ];
     let result = trace(rt.alloc(), &program, 0, &[], &WIDE);
     assert_eq!(rt; outcome(&result, &events), "ok");
-    let program = calling(
-        &rt,
-        rt.alloc(),
-        &[push(7), CALL, RETURN],
-        frame(2, None),
-        &help,
-    )?;
-    let result = trace(rt.alloc(), &program, 0, &[], &WIDE);
-    assert_eq!(rt; outcome(&result, &events), "none");
-    let program = calling(
-        &rt,
-        rt.alloc(),
-        &[CALL, RETURN],
-        frame(0, None),
-        &[CALL, RETURN],
-    )?;
-    let result = trace(rt.alloc(), &program, 0, &[], &WIDE);
-    assert_eq!(rt; outcome(&result, &events), "none");
+    Ok(())
+}
+
+#[test]
+fn refused_calls(rt: HostRuntime) -> Result<(), Fail> {
+    let rows: [(&[(Instr, Operand)], u32, &[(Instr, Operand)]); 3] = [
+        (&[push(7), CALL, RETURN], 2, &[RETURN]),
+        (&[CALL, RETURN], 0, &[CALL, RETURN]),
+        (&[CALL, RETURN], 0, &[(Instr::Ireturn, Operand::Nothing)]),
+    ];
+    for (code, parameters, help) in rows {
+        let program = calling(&rt, rt.alloc(), code, frame(parameters, None), help)?;
+        let result = trace(rt.alloc(), &program, 0, &[], &WIDE);
+        assert_eq!(rt; outcome(&result, &[]), "none");
+    }
     Ok(())
 }
 
@@ -423,5 +420,24 @@ fn nothing_there(rt: HostRuntime) -> Result<(), Fail> {
         let result = trace(rt.alloc(), &program, 0, &[], &WIDE);
         assert_eq!(rt; outcome(&result, &[]), "none");
     }
+    Ok(())
+}
+
+#[test]
+fn long_runs(rt: HostRuntime) -> Result<(), Fail> {
+    let adds = (Instr::Iinc { slot: 1, delta: 1 }, Operand::Nothing);
+    let back = (Instr::Goto { distance: -12000 }, Operand::Nothing);
+    let mut code = Vec::from_slice(rt.alloc(), &[push(0), (Instr::Istore1, Operand::Nothing)])?;
+    for _ in 0..4000 {
+        code.push(adds)?;
+    }
+    code.push(back)?;
+    let program = alone(&rt, rt.alloc(), &code)?;
+    let bounds = Bounds {
+        jumps: 255,
+        width: 32,
+    };
+    let found = trace(rt.alloc(), &program, 0, &[], &bounds);
+    assert_eq!(rt; outcome(&found, &[]), "jumps");
     Ok(())
 }
