@@ -1,30 +1,29 @@
 -- The steps as the code does them.
-use Rattle.std.proofs.Common.{IsTrue, SFits, w32, append_assoc, ◌≡◌, ◌≢◌, ◌<◌, ◌≤◌, ◌+◌, ◌++◌, ◌+ℤ◌, ◌⊎◌, ℕ, ℤ, pos, zero, suc, Bool, true, false, List, [], ◌∷◌, Option, Some, None, Result, Ok, Err, length, map, reverse, nat_eq, nat_le, nat_lt, replicate, refl, sym, ap, subst, ◌∙◌, arith, inl, inr, Contains, if◌then◌else◌}
+use Rattle.std.proofs.Common.{IsTrue, SFits, w32, append_assoc, ◌≡◌, ◌≢◌, ◌<◌, ◌+◌, ◌++◌, ◌+ℤ◌, ◌⊎◌, ℕ, ℤ, pos, Bool, true, false, List, [], ◌∷◌, Option, Some, None, Ok, Err, length, map, reverse, nat_eq, nat_le, nat_lt, refl, sym, ap, subst, ◌∙◌, arith, inl, inr, if◌then◌else◌}
 use Rattle.std.proofs.lemmas.Bool.{cases_lt, le-leb}
 use Rattle.std.proofs.lemmas.List.{append-nil, reverse-reverse, length-reverse, length-append, reverse-append, map-append}
 use Rattle.std.proofs.lemmas.Option.{none-some, same_Some, option_and_then_some}
 use Rattle.std.proofs.lemmas.Int.{ints}
 use Rattle.std.specs.Option.{option_and_then, option_map}
-use Rattle.program.specs.Step.{JavaValue, Activation, Effect, silent, pushes, shows, entered_with, Int}
-use Rattle.program.specs.Program.{Prog, IsMethod, IsInstruction}
+use Rattle.program.specs.Step.{JavaValue, Activation, Effect, silent, shows, entered_with, Int}
+use Rattle.program.specs.Program.{Prog, IsMethod}
 use Rattle.program.specs.Ints.{IsInt}
 use Rattle.program.specs.Run.{read_of}
 use Rattle.program.specs.declared.event.Event.TheVariants as event
 use Rattle.program.specs.declared.method.Method.{Method}
 use Rattle.program.specs.declared.method.MethodId.{MethodId}
-use Rattle.program.proofs.Lists.{contains_nil, contains_cases, contains_here, contains_later}
-use Rattle.thread_meaning.specs.Changes.{Change, OnTop, Makes, AreArguments, CannotTake, change_of, branches, jumps, natural_of, int_on, value_on, monitor_on, object_on, below_out, local_of, int_in, stores}
+use Rattle.program.proofs.Lists.{contains_cases, contains_here, contains_later}
+use Rattle.thread_meaning.specs.Changes.{Change, OnTop, Makes, AreArguments, CannotTake, change_of, branches, natural_of, int_on, value_on, monitor_on, object_on, below_out, local_of, int_in, stores}
 use Rattle.thread_meaning.specs.Doings.{compares}
-use Rattle.thread_meaning.specs.Outcomes.{Outcome, NoOutcome, Acted, Acts, StaysInside, NoneTwice, IsRunning, MayRead, GoesOnBehind, CannotGoOn, inside, reads, calls, ends, returns, returns_int}
+use Rattle.thread_meaning.specs.Outcomes.{NoOutcome, Acted, Acts, NoneTwice, IsRunning, GoesOnBehind, CannotGoOn, inside, reads, calls, ends, returns, returns_int}
 use Rattle.thread_meaning.specs.Paths.{read_in}
-use Rattle.thread_meaning.specs.Values.{is_reference, int_of}
+use Rattle.thread_meaning.specs.Values.{is_reference}
 use Rattle.thread_meaning.specs.declared.doing.Doing.{Doing}
 use Rattle.thread_meaning.specs.declared.doing.Doing.TheVariants as doing
-use Rattle.thread_meaning.specs.declared.doing.Test.{Test}
 use Rattle.thread_meaning.specs.declared.doing.Test.TheVariants as test
 use Rattle.thread_meaning.specs.declared.end.TraceEnd.{TraceEnd}
 use Rattle.thread_meaning.specs.declared.end.TraceEnd.TheVariants as end
-use Rattle.thread_meaning.proofs.Sound.{Passed, passed, on_value, on_int}
+use Rattle.thread_meaning.proofs.Sound.{passed, on_value, on_int}
 
 -- ---- Changes inside a frame
 

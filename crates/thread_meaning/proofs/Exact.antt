@@ -1,6 +1,6 @@
 -- Where the trace is refused there is no run.
-use Rattle.std.proofs.Common.{◌≡◌, ◌≢◌, ◌<◌, ◌≤◌, ◌+◌, ◌++◌, ◌⊎◌, ℕ, ℤ, suc, Bool, true, false, List, [], ◌∷◌, Option, Some, None, All, length, map, count_by, slice_get, refl, sym, ap, subst, ◌∙◌, arith, inl, inr, cond, Contains, Result, Ok, Err, IfOk, IfErr}
-use Rattle.std.proofs.lemmas.List.{append-nil, length-append}
+use Rattle.std.proofs.Common.{◌≡◌, ◌≢◌, ◌≤◌, ◌+◌, ◌++◌, ◌⊎◌, ℕ, ℤ, Bool, true, false, List, [], ◌∷◌, Option, Some, All, length, count_by, refl, sym, ap, subst, ◌∙◌, arith, inl, inr, cond, Result, Ok, Err, IfOk, IfErr}
+use Rattle.std.proofs.lemmas.List.{append-nil}
 use Rattle.std.proofs.lemmas.List.Sums.{sum_by-append}
 use Rattle.std.proofs.lemmas.List.Elements.{Contains-append_right}
 use Rattle.std.proofs.lemmas.Option.{none-some}
@@ -10,11 +10,10 @@ use Rattle.line_text.specs.declared.bounds.Bounds.{Bounds}
 use Rattle.opcodes.specs.Instructions.{length_of}
 use Rattle.opcodes.specs.declared.instruction.Instr.{Instr}
 use Rattle.opcodes.specs.declared.instruction.Instr.TheVariants as instr
-use Rattle.program.specs.Program.{Prog, IsMethod}
-use Rattle.program.specs.Run.{Move, AreSteps, IsRun}
-use Rattle.program.specs.Step.{Activation, Effect, Step, IsEntry, ComesNext}
+use Rattle.program.specs.Program.{Prog}
+use Rattle.program.specs.Run.{Move, AreSteps}
+use Rattle.program.specs.Step.{Activation, Effect, Step, ComesNext}
 use Rattle.program.specs.declared.event.Event.{Event}
-use Rattle.program.specs.declared.method.Method.{Method}
 use Rattle.program.specs.declared.method.MethodId.{MethodId}
 use Rattle.program.specs.declared.method.Operand.{Operand}
 use Rattle.program.specs.declared.method.Operand.TheVariants as operand
@@ -22,8 +21,8 @@ use Rattle.program.proofs.Lists.{contains_here, all_of}
 use Rattle.thread_meaning.specs.Changes.{change_of}
 use Rattle.thread_meaning.specs.Doings.{doing_of}
 use Rattle.thread_meaning.specs.Outcomes.{Outcome, NoneTwice, IsRunning, NextReads, CallsItself, inside, reads, calls, ends, returns, returns_int}
-use Rattle.thread_meaning.specs.Paths.{IsOrdered, Leads, read_in, reads_of}
-use Rattle.thread_meaning.specs.Tracing.{IsRefused, Arrives, HasRun, HasPlainRun, FindsRun, IsReadsShort, IsReadsLeft, IsPastJumps, IsPastWidth, IsNotLinked, no_entry, no_step, within}
+use Rattle.thread_meaning.specs.Paths.{IsOrdered, read_in, reads_of}
+use Rattle.thread_meaning.specs.Tracing.{IsRefused, Arrives, HasRun, HasPlainRun, FindsRun, IsNotLinked, no_entry, no_step, within}
 use Rattle.thread_meaning.specs.declared.doing.Doing.{Doing}
 use Rattle.thread_meaning.specs.declared.doing.Doing.TheVariants as doing
 use Rattle.thread_meaning.specs.declared.end.TraceEnd.{TraceEnd}

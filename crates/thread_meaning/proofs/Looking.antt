@@ -1,8 +1,8 @@
 -- What stands at a place of the code.
-use Rattle.std.proofs.Common.{Bool, ◌≡◌, ◌≢◌, ◌<◌, ◌≤◌, ◌⊎◌, ℕ, zero, suc, List, Option, Some, None, Result, Ok, Err, length, get_or, slice_get, ◌&&◌, nat_eq, true, false, refl, sym, ap, subst, ◌∙◌, arith, inl, inr, IfErr, Contains, map, slice_index_or, All}
+use Rattle.std.proofs.Common.{Bool, ◌≡◌, ◌≢◌, ◌<◌, ◌≤◌, ℕ, Some, length, get_or, slice_get, ◌&&◌, nat_eq, true, false, refl, sym, ap, subst, ◌∙◌, arith, inl, inr, Contains, map}
 use Rattle.std.specs.List.{AllWithin}
 use Rattle.std.proofs.lemmas.Bool.{cases_lt, eq-eqb, eqb-true}
-use Rattle.std.proofs.lemmas.Option.{none-some, same_Some, slice_get_within, get_or_from_slice_get, slice_get-get_or}
+use Rattle.std.proofs.lemmas.Option.{same_Some, slice_get_within, get_or_from_slice_get}
 use Rattle.opcodes.specs.Listing.{IsByPc}
 use Rattle.opcodes.specs.declared.instruction.Instr.{Instr}
 use Rattle.opcodes.specs.declared.listed.Listed.{Listed}
@@ -12,9 +12,6 @@ use Rattle.program.specs.declared.method.MethodId.{MethodId}
 use Rattle.program.specs.declared.method.Operand.{Operand}
 use Rattle.program.proofs.Lists.{contains_mapped}
 use Rattle.thread_meaning.specs.Outcomes.{NothingAt, NothingIn}
-use Rattle.thread_meaning.specs.declared.end.TraceEnd.{TraceEnd}
-use Rattle.thread_meaning.specs.declared.end.TraceEnd.TheVariants as end
-use Rattle.thread_meaning.proofs.Unique.{one_place}
 
 -- an instruction at this place of the code stands at the place of the list where the search ended
 pub at_search : (method : Method) (pc place : ℕ) (i : Instr) (o : Operand) → IsByPc method.listing → AllWithin (λ l. l.pc < pc) method.listing 0 place →

@@ -10,10 +10,9 @@ use Rattle.program.specs.Step.{Activation, Effect, Step, entered_with, Int}
 use Rattle.program.specs.declared.method.Method.{Method}
 use Rattle.program.specs.declared.method.MethodId.{MethodId}
 use Rattle.program.proofs.Lists.{contains_nil, contains_here, contains_later, contains_cases, contains_mapped}
-use Rattle.thread_meaning.specs.Changes.{Change}
 use Rattle.thread_meaning.specs.Doings.{doing_of}
-use Rattle.thread_meaning.specs.Outcomes.{Outcome, IsRunning, NoneTwice, IsLow, inside, reads, calls, ends, returns, returns_int}
-use Rattle.thread_meaning.proofs.Acting.{Kept, kept}
+use Rattle.thread_meaning.specs.Outcomes.{Outcome, IsRunning, NoneTwice, inside, reads, calls, ends, returns, returns_int}
+use Rattle.thread_meaning.proofs.Acting.{kept}
 use Rattle.thread_meaning.proofs.Normal.{Normal, normal}
 
 -- ---- At most as many frames as methods

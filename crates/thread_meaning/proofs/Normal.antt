@@ -1,23 +1,19 @@
 -- Each step is one of six: a change inside a frame, a read, a call, and three returns.
-use Rattle.std.proofs.Common.{◌≡◌, ◌<◌, ◌+◌, ◌++◌, ◌+ℤ◌, ℕ, ℤ, pos, Bool, true, false, List, [], ◌∷◌, Option, Some, None, length, reverse, nat_le, nat_lt, slice_get, slice_set, refl, sym, ap, subst, ◌∙◌}
+use Rattle.std.proofs.Common.{◌≡◌, ◌+◌, ℕ, ℤ, Bool, true, false, List, [], ◌∷◌, Some, length, nat_le, slice_set, refl, sym, ap, subst, ◌∙◌}
 use Rattle.std.proofs.lemmas.Bool.{eq-eqb, lt-ltb}
 use Rattle.std.proofs.lemmas.Option.{none-some, same_Some}
-use Rattle.std.specs.Option.{option_and_then, option_map}
 use Rattle.opcodes.specs.Instructions.{jump_of, length_of}
 use Rattle.opcodes.specs.declared.instruction.Instr.{Instr}
 use Rattle.opcodes.specs.declared.instruction.Instr.TheVariants as instr
-use Rattle.program.specs.Ints.{IsInt}
 use Rattle.program.specs.Operations.{Condition, LoadsConstant, int_load_of, reference_load_of, int_store_of, reference_store_of, unary_of, binary_of, condition_of}
 use Rattle.program.specs.Program.{Prog, IsMethod, IsInstruction}
 use Rattle.program.specs.Step.{JavaValue, Activation, Effect, Executes, ComesNext, StoresLocal, JumpsTo, ReturnsTo, Tests, Holds, IsReference, Step, entered_with, silent, pushes, shows, Int, Out, Args, This, Monitor, Object}
 use Rattle.program.specs.Step as step
-use Rattle.program.specs.declared.event.Event.TheVariants as event
 use Rattle.program.specs.declared.method.Method.{Method}
-use Rattle.program.specs.declared.method.MethodId.{MethodId}
 use Rattle.program.specs.declared.method.Operand.{Operand}
 use Rattle.program.specs.declared.method.Operand.TheVariants as operand
 use Rattle.thread_meaning.specs.Changes.{Change, goes_on, branches, jumps, change_of}
-use Rattle.thread_meaning.specs.Doings.{unary_op, binary_op, compares, condition, doing_of, own_doing}
+use Rattle.thread_meaning.specs.Doings.{unary_op, binary_op, condition, doing_of, own_doing}
 use Rattle.thread_meaning.specs.Outcomes.{Outcome, inside, reads, calls, ends, returns, returns_int}
 use Rattle.thread_meaning.specs.Values.{is_reference}
 use Rattle.thread_meaning.specs.declared.doing.Unary.{Unary}

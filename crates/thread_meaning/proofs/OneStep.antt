@@ -1,5 +1,5 @@
 -- A step is determined by its state, and by the value that it reads.
-use Rattle.std.proofs.Common.{◌≡◌, ◌≢◌, ◌+◌, ◌++◌, ◌⊎◌, ℕ, ℤ, List, [], ◌∷◌, Option, Some, None, length, reverse, refl, sym, ap, subst, ◌∙◌, inl, inr, arith, false, AllPairs, Contains}
+use Rattle.std.proofs.Common.{◌≡◌, ◌+◌, ◌++◌, ◌⊎◌, ℕ, ℤ, List, [], ◌∷◌, Option, Some, None, length, reverse, refl, sym, ap, subst, ◌∙◌, inl, inr, arith, false}
 use Rattle.std.proofs.lemmas.List.{length-reverse, reverse-reverse}
 use Rattle.std.proofs.lemmas.Option.{none-some, same_Some}
 use Rattle.std.specs.Option.{option_map}
@@ -7,7 +7,7 @@ use Rattle.opcodes.specs.Instructions.{length_of}
 use Rattle.opcodes.specs.Listing.{IsByPc}
 use Rattle.opcodes.specs.declared.instruction.Instr.{Instr}
 use Rattle.program.specs.Program.{Prog, IsMethod, IsInstruction}
-use Rattle.program.specs.Step.{JavaValue, Activation, Effect, Step, shows, entered_with, Int}
+use Rattle.program.specs.Step.{JavaValue, Activation, Effect, Step, shows, Int}
 use Rattle.program.specs.declared.event.Event.TheVariants as event
 use Rattle.program.specs.declared.method.Method.{Method}
 use Rattle.program.specs.declared.method.MethodId.{MethodId}
@@ -16,7 +16,6 @@ use Rattle.thread_meaning.specs.Changes.{Change, change_of}
 use Rattle.thread_meaning.specs.Doings.{doing_of}
 use Rattle.thread_meaning.specs.Paths.{IsOrdered, read_in}
 use Rattle.thread_meaning.specs.declared.doing.Doing.{Doing}
-use Rattle.thread_meaning.specs.declared.doing.Doing.TheVariants as doing
 use Rattle.thread_meaning.specs.Outcomes.{Outcome, inside, reads, calls, ends, returns, returns_int}
 use Rattle.thread_meaning.proofs.Normal.{Normal, normal}
 use Rattle.thread_meaning.proofs.Unique.{SameInstruction, one_method, one_instruction}

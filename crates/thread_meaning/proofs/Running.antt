@@ -1,5 +1,5 @@
 -- Which methods are being run.
-use Rattle.std.proofs.Common.{◌≡◌, ◌<◌, ◌≤◌, ◌-◌, ℕ, zero, suc, List, [], ◌∷◌, ◌⊎◌, Option, Some, None, length, get_or, map, reverse, refl, sym, ap, subst, ◌∙◌, arith, inl, inr, Contains}
+use Rattle.std.proofs.Common.{◌≡◌, ◌<◌, ◌-◌, ℕ, List, length, get_or, map, reverse, ap, subst, ◌∙◌, arith, Contains}
 use Rattle.std.proofs.lemmas.List.{length-reverse, reverse-reverse, get_or-reverse}
 use Rattle.program.proofs.Lists.{contains_map, contains_mapped}
 use Rattle.program.specs.Step.{Activation}

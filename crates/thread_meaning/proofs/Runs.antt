@@ -1,5 +1,5 @@
 -- A run passes where each list of steps with its reads leads.
-use Rattle.std.proofs.Common.{◌≡◌, ◌++◌, ◌⊎◌, ℕ, ℤ, List, [], ◌∷◌, Option, Some, None, slice_get, refl, sym, ap, subst, ◌∙◌, inl, inr}
+use Rattle.std.proofs.Common.{◌≡◌, ◌++◌, ℕ, ℤ, List, [], ◌∷◌, Option, Some, None, refl, sym, ap, subst, ◌∙◌, inl, inr}
 use Rattle.std.proofs.lemmas.List.{append-nil}
 use Rattle.std.proofs.lemmas.List.Elements.{filter_map-append}
 use Rattle.std.proofs.lemmas.Option.{same_Some}
@@ -14,7 +14,7 @@ use Rattle.program.specs.declared.method.Method.{Method}
 use Rattle.program.specs.declared.method.MethodId.{MethodId}
 use Rattle.thread_meaning.specs.Paths.{IsOrdered, Leads, read_in, reads_of}
 use Rattle.thread_meaning.proofs.Normal.{Normal, normal}
-use Rattle.thread_meaning.proofs.OneStep.{Alike, BothRead, alike}
+use Rattle.thread_meaning.proofs.OneStep.{Alike, alike}
 use Rattle.thread_meaning.proofs.Unique.{one_method}
 
 -- no step leads on behind the outermost return

@@ -1,8 +1,7 @@
 -- What an instruction changes inside a frame is a step.
-use Rattle.std.proofs.Common.{◌≡◌, ◌<◌, ◌+◌, ◌+ℤ◌, ℕ, ℤ, pos, negsuc, Bool, true, false, List, [], ◌∷◌, Option, Some, None, length, nat_eq, nat_le, nat_lt, slice_get, slice_set, refl, sym, ap, subst, ◌∙◌, if◌then◌else◌}
+use Rattle.std.proofs.Common.{◌≡◌, ◌+◌, ◌+ℤ◌, ℕ, ℤ, pos, negsuc, Bool, true, false, List, [], ◌∷◌, Option, Some, None, length, nat_eq, nat_lt, slice_get, slice_set, refl, sym, ap, subst, ◌∙◌, if◌then◌else◌}
 use Rattle.std.proofs.lemmas.Bool.{eqb-true, ltb-true}
 use Rattle.std.proofs.lemmas.Option.{none-some, same_Some, option_and_then_some}
-use Rattle.std.specs.Option.{option_and_then}
 use Rattle.java_int.specs.JavaInt.{add_of}
 use Rattle.opcodes.specs.Instructions.{jump_of, length_of}
 use Rattle.opcodes.specs.declared.instruction.Instr.{Instr}
@@ -15,7 +14,7 @@ use Rattle.program.specs.declared.event.Event.TheVariants as event
 use Rattle.program.specs.declared.method.Method.{Method}
 use Rattle.program.specs.declared.method.Operand.{Operand}
 use Rattle.program.specs.declared.method.Operand.TheVariants as operand
-use Rattle.thread_meaning.specs.Changes.{Change, OnTop, goes_on, value_on, int_on, monitor_on, object_on, below_out, held, local_of, int_in, stores, natural_of, jumps_to, branches, jumps, pushes_int, puts, takes_monitor, takes_object, writes, prints, discards, doubles, exchanges, loads_int, loads_reference, stores_int, stores_reference, increments, applies_unary, applies_binary, change_of}
+use Rattle.thread_meaning.specs.Changes.{Change, OnTop, goes_on, value_on, int_on, monitor_on, object_on, below_out, held, local_of, int_in, stores, natural_of, branches, jumps, pushes_int, puts, takes_monitor, takes_object, writes, prints, discards, doubles, exchanges, loads_int, loads_reference, stores_int, stores_reference, increments, applies_unary, applies_binary, change_of}
 use Rattle.thread_meaning.specs.Doings.{unary_op, binary_op, compares, condition, doing_of}
 use Rattle.thread_meaning.specs.Values.{int_of, is_reference}
 use Rattle.thread_meaning.specs.declared.doing.Unary.{Unary}

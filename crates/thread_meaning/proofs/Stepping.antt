@@ -1,5 +1,5 @@
 -- What the code does at an instruction is the step of the thread.
-use Rattle.std.proofs.Common.{◌≡◌, ◌≢◌, ◌<◌, ◌^◌, ◌+◌, ◌++◌, ◌⊎◌, ℕ, ℤ, List, [], ◌∷◌, Option, Some, None, Result, Ok, Err, length, reverse, refl, sym, ap, subst, ◌∙◌, arith, inl, inr}
+use Rattle.std.proofs.Common.{◌≡◌, ◌<◌, ◌^◌, ◌+◌, ℕ, ℤ, List, ◌∷◌, Option, Result, Ok, Err, refl, sym, ap, subst, ◌∙◌, inl, inr}
 use Rattle.opcodes.specs.Instructions.{length_of}
 use Rattle.opcodes.specs.Listing.{IsByPc}
 use Rattle.opcodes.specs.declared.instruction.Instr.{Instr}
@@ -13,7 +13,7 @@ use Rattle.program.specs.declared.method.MethodId.{MethodId}
 use Rattle.program.specs.declared.method.Operand.{Operand}
 use Rattle.program.specs.declared.method.Operand.TheVariants as operand
 use Rattle.thread_meaning.specs.Doings.{doing_of}
-use Rattle.thread_meaning.specs.Outcomes.{Outcome, NoOutcome, Acted, Acts, IsHere, NothingAt, NoStep, CallsItself, CallsRunning, NextReads, Reads, IsLow, IsRunning, NoneTwice, Stepped, Steps, inside, reads, calls, ends, returns, returns_int}
+use Rattle.thread_meaning.specs.Outcomes.{Outcome, Acts, IsHere, NothingAt, NoStep, IsLow, IsRunning, NoneTwice, Steps, inside, reads, calls, ends, returns, returns_int}
 use Rattle.thread_meaning.specs.declared.code.Here.{Here}
 use Rattle.thread_meaning.specs.declared.doing.Doing.{Doing}
 use Rattle.thread_meaning.specs.declared.doing.Doing.TheVariants as doing
@@ -21,7 +21,7 @@ use Rattle.thread_meaning.specs.declared.end.TraceEnd.{TraceEnd}
 use Rattle.thread_meaning.specs.declared.end.TraceEnd.TheVariants as end
 use Rattle.thread_meaning.proofs.Normal.{Normal, normal}
 use Rattle.thread_meaning.proofs.OneStep.{same_place}
-use Rattle.thread_meaning.proofs.Sound.{At, inside_is_step}
+use Rattle.thread_meaning.proofs.Sound.{inside_is_step}
 
 -- ---- Which instructions read, call and return
 

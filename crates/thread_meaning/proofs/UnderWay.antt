@@ -1,24 +1,24 @@
 -- The walk along the run.
-use Rattle.std.proofs.Common.{◌≡◌, ◌≢◌, ◌<◌, ◌≤◌, ◌+◌, ◌-◌, ◌++◌, ◌⊎◌, ℕ, ℤ, zero, suc, Bool, true, false, List, [], ◌∷◌, Option, Some, None, All, length, map, drop, count_by, get_or, slice_get, refl, sym, ap, subst, ◌∙◌, arith, inl, inr, append_assoc, if◌then◌else◌, cond, Contains, IfOk, IfErr, Result, Ok, Err}
+use Rattle.std.proofs.Common.{◌≡◌, ◌≢◌, ◌<◌, ◌≤◌, ◌+◌, ◌-◌, ◌++◌, ◌⊎◌, ℕ, ℤ, suc, List, [], ◌∷◌, Option, Some, None, All, length, map, drop, count_by, slice_get, refl, sym, ap, subst, ◌∙◌, arith, inl, inr, append_assoc, if◌then◌else◌, cond, Contains, IfOk, IfErr, Result, Ok, Err}
 use Rattle.std.proofs.lemmas.List.{append-nil, length-map, length-drop, drop_all}
 use Rattle.std.proofs.lemmas.List.Elements.{filter_map-append, All-append, All-nil}
 use Rattle.std.proofs.lemmas.List.Sums.{sum_by-append}
-use Rattle.std.proofs.lemmas.Option.{none-some, same_Some, slice_get_within, slice_get_cases, get_or_from_slice_get}
+use Rattle.std.proofs.lemmas.Option.{none-some, slice_get_within, slice_get_cases, get_or_from_slice_get}
 use Rattle.std.proofs.Math.Seq.{drop-cons}
 use Rattle.std.specs.List.{filter_map, cons_option}
 use Rattle.std.specs.Option.{option_and_then}
 use Rattle.java_int.specs.JavaInt.{Fits}
 use Rattle.line_text.specs.declared.bounds.Bounds.{Bounds}
 use Rattle.program.specs.Bounds.{InBounds}
-use Rattle.program.specs.Program.{Prog, IsMethod}
-use Rattle.program.specs.Run.{Move, IsRun, AreSteps, events_of, read_of, printed_of}
-use Rattle.program.specs.Step.{Activation, Effect, Step, IsEntry, entered_with, parameters_of}
+use Rattle.program.specs.Program.{Prog}
+use Rattle.program.specs.Run.{Move, events_of, read_of, printed_of}
+use Rattle.program.specs.Step.{Activation, Effect, Step, IsEntry}
 use Rattle.program.specs.declared.event.Event.{Event}
 use Rattle.program.specs.declared.event.Event.TheVariants as event
 use Rattle.program.specs.declared.method.Method.{Method}
 use Rattle.program.specs.declared.method.MethodId.{MethodId}
 use Rattle.program.proofs.Lists.{all_cons, contains_nil, contains_one}
-use Rattle.thread_meaning.specs.Outcomes.{NoneTwice, IsRunning, IsLow, Stepped, MayRead}
+use Rattle.thread_meaning.specs.Outcomes.{NoneTwice, IsLow, Stepped}
 use Rattle.thread_meaning.specs.Paths.{Leads, read_in, reads_of}
 use Rattle.thread_meaning.specs.Tracing.{HasRun, Arrives, IsRefused, Starts, Advances, Stops, Ends, Finishes, list_of, printed_in, CannotStart, no_entry, no_step, within}
 use Rattle.thread_meaning.specs.declared.end.TraceEnd.{TraceEnd}

@@ -1,7 +1,7 @@
 -- There is one method of a name, and one instruction at a place.
-use Rattle.std.proofs.Common.{◌≡◌, ◌≢◌, ◌<◌, ◌⊎◌, ℕ, zero, suc, List, [], ◌∷◌, ◌++◌, Some, None, length, get_or, slice_get, refl, sym, ap, subst, ◌∙◌, arith, inl, inr, AllPairs, Contains}
+use Rattle.std.proofs.Common.{◌≡◌, ◌≢◌, ◌<◌, ℕ, List, Some, get_or, slice_get, sym, ap, subst, ◌∙◌, arith, inl, inr, AllPairs}
 use Rattle.std.proofs.lemmas.Bool.{cases_lt}
-use Rattle.std.proofs.lemmas.Option.{none-some, same_Some, slice_get_within, get_or_from_slice_get}
+use Rattle.std.proofs.lemmas.Option.{same_Some, slice_get_within, get_or_from_slice_get}
 use Rattle.opcodes.specs.Listing.{IsByPc}
 use Rattle.opcodes.specs.declared.instruction.Instr.{Instr}
 use Rattle.opcodes.specs.declared.listed.Listed.{Listed}

@@ -1,5 +1,5 @@
 -- What instructions do, by what they name (JVMS 6.5).
-use Rattle.std.specs.Prelude.{ℕ, ℤ, pos, Bool, not, ◌&&◌, int_lt, int_le}
+use Rattle.std.specs.Prelude.{ℕ, ℤ, pos, Bool, not, int_lt, int_le}
 use Rattle.java_int.specs.JavaInt.{add_of, sub_of, mul_of, neg_of, shl_of, shr_of, ushr_of, and_of, or_of, xor_of, to_byte_of, to_char_of, to_short_of}
 use Rattle.opcodes.specs.declared.instruction.Instr.{Instr}
 use Rattle.opcodes.specs.declared.instruction.Instr.TheVariants as instr

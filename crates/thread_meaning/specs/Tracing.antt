@@ -1,12 +1,12 @@
 -- The trace of a thread: its run, or why there is none in bounds.
-use Rattle.std.specs.Prelude.{◌≡◌, ◌≢◌, ◌<◌, ◌≤◌, ◌+◌, ◌++◌, ◌⊎◌, ℕ, ℤ, Bool, true, false, List, [], ◌∷◌, Option, Some, None, Result, Ok, Err, All, length, count_by, drop, slice_get, if◌then◌else◌}
-use Rattle.std.specs.List.{filter_map, cons_option}
+use Rattle.std.specs.Prelude.{◌≡◌, ◌≢◌, ◌<◌, ◌≤◌, ◌+◌, ◌++◌, ◌⊎◌, ℕ, ℤ, true, List, [], ◌∷◌, Option, None, Result, Ok, Err, All, length, count_by, slice_get, if◌then◌else◌}
+use Rattle.std.specs.List.{cons_option}
 use Rattle.std.specs.Option.{option_and_then}
 use Rattle.java_int.specs.JavaInt.{Fits}
 use Rattle.line_text.specs.declared.bounds.Bounds.{Bounds}
 use Rattle.program.specs.Bounds.{InBounds}
 use Rattle.program.specs.Program.{Prog}
-use Rattle.program.specs.Run.{Move, IsRun, events_of, printed_of}
+use Rattle.program.specs.Run.{Move, IsRun, printed_of}
 use Rattle.program.specs.Step.{Activation, Effect, Step, IsEntry}
 use Rattle.program.specs.declared.event.Event.{Event}
 use Rattle.program.specs.declared.event.Event.TheVariants as event

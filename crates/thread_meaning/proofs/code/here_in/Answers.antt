@@ -1,7 +1,6 @@
 -- What the search finds is the one instruction at the place.
 use Rattle.std.proofs.Common.{◌≡◌, ◌<◌, ◌≤◌, length, Some, List, sym, subst, ap, refl, ◌∙◌, ℕ}
 use Rattle.std.specs.List.{AllWithin}
-use Rattle.opcodes.specs.Listing.{IsByPc}
 use Rattle.opcodes.specs.declared.listed.Listed.{Listed}
 use Rattle.thread_meaning.proofs.Looking.{another_pc}
 use Rattle.thread_meaning.proofs.code.here_in.Goals as goal

@@ -1,4 +1,4 @@
-use Rattle.std.proofs.Common.{refl, sym, subst, ◌∙◌}
+use Rattle.std.proofs.Common.{refl}
 use Rattle.thread_meaning.proofs.Looking.{nothing_else}
 use Rattle.thread_meaning.proofs.code.look.Goals as goal
 

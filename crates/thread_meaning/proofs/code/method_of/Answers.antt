@@ -1,4 +1,4 @@
-use Rattle.std.proofs.Common.{length, arith, refl, ap, subst, sym, ◌∙◌, List, Contains}
+use Rattle.std.proofs.Common.{arith, refl, subst, sym, List, Contains}
 use Rattle.program.specs.declared.method.MethodId.{MethodId}
 use Rattle.thread_meaning.proofs.Looking.{not_reached, not_equal}
 use Rattle.thread_meaning.proofs.Unique.{one_method}

@@ -1,7 +1,7 @@
 -- The walk begins at the entry, goes one step further at a time, and ends where the run ends or can't go on.
 use Rattle.std.proofs.lemmas.Result.{err_from_is_err_and}
 use Rattle.thread_meaning.proofs.Acting.{not_true}
-use Rattle.thread_meaning.proofs.UnderWay.{starts, goes_on, comes_nearer, stops, finished, unfinished, not_started}
+use Rattle.thread_meaning.proofs.UnderWay.{starts, goes_on, comes_nearer, stops, finished, unfinished}
 use Rattle.thread_meaning.proofs.tracing.follow.Goals as goal
 
 pub steps-init : goal.steps-init

@@ -1,9 +1,9 @@
-use Rattle.std.proofs.Common.{◌≡◌, ◌∙◌, ap, sym, refl, rules, Option, Some, List, ◌∷◌, false, [], inl, inr}
+use Rattle.std.proofs.Common.{◌≡◌, ◌∙◌, ap, sym, refl, Option, List, ◌∷◌, false, [], inl, inr}
 use Rattle.std.proofs.lemmas.Result.{err_from_is_err_and}
 use Rattle.program.specs.Step.{Activation, entered_with}
 use Rattle.program.specs.declared.event.Event.{Event}
 use Rattle.thread_meaning.specs.Changes.{activation_of}
-use Rattle.thread_meaning.proofs.Acting.{called_acted, no_such_method, too_few_arguments, enter_refused, running_here, running_below, not_running, not_true}
+use Rattle.thread_meaning.proofs.Acting.{called_acted, no_such_method, enter_refused, running_here, running_below, not_running, not_true}
 use Rattle.thread_meaning.proofs.Looking.{equal_ids, not_equal}
 use Rattle.thread_meaning.proofs.frames.Frames.call.Goals as goal
 

@@ -1,7 +1,7 @@
-use Rattle.std.proofs.Common.{◌≡◌, ◌∙◌, ℤ, Some, SFits, w32, to_z, of_z, ap, sym, rules, subst, arith, List, ◌∷◌, refl}
-use Rattle.std.proofs.lemmas.Int.{to_z-of_z, ints}
+use Rattle.std.proofs.Common.{◌≡◌, ◌∙◌, ℤ, Some, SFits, w32, to_z, of_z, ap, sym, rules, subst, List, ◌∷◌}
+use Rattle.std.proofs.lemmas.Int.{to_z-of_z}
 use Rattle.program.specs.Ints.{IsInt}
-use Rattle.program.specs.Step.{Activation, JavaValue}
+use Rattle.program.specs.Step.{JavaValue}
 use Rattle.thread_meaning.specs.Changes.{activation_of}
 use Rattle.thread_meaning.proofs.Acting.{read_acted, fits_int}
 use Rattle.thread_meaning.proofs.frames.Frames.read.Goals as goal

@@ -5,7 +5,7 @@ use Rattle.program.specs.Step.{JavaValue}
 use Rattle.program.specs.declared.event.Event.{Event}
 use Rattle.std.proofs.lemmas.Result.{err_from_is_err_and}
 use Rattle.thread_meaning.specs.Changes.{activation_of}
-use Rattle.thread_meaning.proofs.Acting.{returned_int_acted, cannot_return_int, no_int_to_return}
+use Rattle.thread_meaning.proofs.Acting.{returned_int_acted, cannot_return_int}
 
 pub returns-in_err-caller : goal.returns-in_err-caller
 returns-in_err-caller c = λ behind read.

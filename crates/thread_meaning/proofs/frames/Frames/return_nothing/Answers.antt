@@ -1,6 +1,5 @@
-use Rattle.std.proofs.Common.{◌≡◌, ◌∙◌, ap, sym, rules, Option, false, [], inl}
+use Rattle.std.proofs.Common.{◌≡◌, ◌∙◌, ap, Option, false, [], inl}
 use Rattle.std.proofs.lemmas.Result.{err_from_is_err_and}
-use Rattle.program.specs.Step.{Effect}
 use Rattle.program.specs.declared.event.Event.{Event}
 use Rattle.thread_meaning.specs.Changes.{activation_of}
 use Rattle.thread_meaning.proofs.Acting.{returned_acted, cannot_return, not_true}

@@ -1,4 +1,4 @@
-use Rattle.std.proofs.Common.{◌<◌, ◌^◌, inl, rules, arith}
+use Rattle.std.proofs.Common.{◌<◌, ◌^◌, inl, rules}
 use Rattle.std.proofs.lemmas.Result.{err_from_is_err_and}
 use Rattle.thread_meaning.specs.Changes.{activation_of}
 use Rattle.thread_meaning.proofs.Stepping.{nothing_no_step, acts_step}

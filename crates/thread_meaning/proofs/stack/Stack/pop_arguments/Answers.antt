@@ -1,5 +1,4 @@
-use Rattle.std.proofs.Common.{◌≡◌, List, Option, Some, arith, rules, ◌++◌, ◌∷◌, []}
-use Rattle.program.specs.Step.{JavaValue}
+use Rattle.std.proofs.Common.{◌≡◌, Some, arith, rules, ◌++◌, ◌∷◌, []}
 use Rattle.thread_meaning.proofs.Acting.{one_more, all_taken}
 use Rattle.thread_meaning.proofs.stack.Stack.pop_arguments.Goals as goal
 
