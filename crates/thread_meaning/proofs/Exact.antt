@@ -58,8 +58,8 @@ reading p m d v behind a callers e t is (returns_int n below caller others calli
 
 no_read_short : (p : Prog) (k : ℕ) (s : List Activation) (rest : List Move) → IsOrdered p → NextReads p s → AreSteps p k s rest → reads_of rest ≡ [] → ⊥
 no_read_short p k s [] ordered next steps none = let never : [] ≡ next.next.top ∷ next.next.callers = sym steps ∙ next.next.stands in cc
-no_read_short p k s (m ∷ rest) ordered next steps none = go (reading p next.next.method.frame.monitor (doing_of next.instr (operand.Variable next.variable)) next.variable (next.next.top.pc + length_of next.instr) next.next.top next.next.callers m.effect m.state next.reads
-    (outcome_next p k s next.instr (operand.Variable next.variable) next.next m.effect m.state ordered steps.0))
+no_read_short p k s (m ∷ rest) ordered next steps none = go (reading p next.next.method.frame.monitor (doing.Read next.variable) next.variable (next.next.top.pc + length_of (instr.Getstatic next.index)) next.next.top next.next.callers m.effect m.state refl
+    (outcome_next p k s (instr.Getstatic next.index) (operand.Variable next.variable) next.next m.effect m.state ordered steps.0))
   where
     go : (n : ℤ) × (read_in m.effect ≡ Some n) → ⊥
     go (n, is) = let never : n ∷ reads_of rest ≡ [] = ap (λ (o : Option ℤ). cons_option o (reads_of rest)) (sym is) ∙ sym (reads_first m rest) ∙ none in cc
@@ -99,32 +99,22 @@ too_many_jumps moves all m rest others e jumps is next effect backward used few 
 
 -- ---- Calls within themselves
 
-called_within : (p : Prog) (m : Option ℕ) (i : Instr) (id : MethodId) (behind : ℕ) (a : Activation) (callers : List Activation) (e : Effect) (t : List Activation) → (d : Doing) → (d ≡ doing.Call id) ⊎ (d ≡ doing.Stuck) →
-    Outcome p m d behind a callers e t → IsRunning (a ∷ callers) id → NoneTwice t → ⊥
-called_within p m i id behind a callers e t d (inl is) (inside b h goes) running none = none-some _ (subst (λ (x : Doing). change_of x behind a ≡ Some (record { effect = e; after = b })) is h)
-called_within p m i id behind a callers e t d (inr is) (inside b h goes) running none = none-some _ (subst (λ (x : Doing). change_of x behind a ≡ Some (record { effect = e; after = b })) is h)
-called_within p m i id behind a callers e t d (inl is) (calls other called arguments rest does is_called count stack effect goes) running none =
-    let same : id ≡ called.id = (let ids : id ≡ other = cc in ids ∙ sym is_called.named) in
-    (subst NoneTwice goes none).0 (subst (λ (x : MethodId). IsRunning (a ∷ callers) x) same running)
-called_within p m i id behind a callers e t d (inr is) (calls other called arguments rest does is_called count stack effect goes) running none = cc
-called_within p m i id behind a callers e t d (inl is) (reads v n fits does shows goes) running none = cc
-called_within p m i id behind a callers e t d (inr is) (reads v n fits does shows goes) running none = cc
-called_within p m i id behind a callers e t d (inl is) (ends does alone effect goes) running none = cc
-called_within p m i id behind a callers e t d (inr is) (ends does alone effect goes) running none = cc
-called_within p m i id behind a callers e t d (inl is) (returns caller others calling call called does under is_calling at effect goes) running none = cc
-called_within p m i id behind a callers e t d (inr is) (returns caller others calling call called does under is_calling at effect goes) running none = cc
-called_within p m i id behind a callers e t d (inl is) (returns_int n below caller others calling call called does stack under is_calling at effect goes) running none = cc
-called_within p m i id behind a callers e t d (inr is) (returns_int n below caller others calling call called does stack under is_calling at effect goes) running none = cc
-
-static_is : (i : Instr) (id : MethodId) → (doing_of i (operand.Method id) ≡ doing.Call id) ⊎ (doing_of i (operand.Method id) ≡ doing.Stuck)
-static_is (instr.Invokestatic index) id = inl refl
-static_is _ id = inr refl
+called_within : (p : Prog) (m : Option ℕ) (id : MethodId) (behind : ℕ) (a : Activation) (callers : List Activation) (e : Effect) (t : List Activation) → Outcome p m (doing.Call id) behind a callers e t →
+    IsRunning (a ∷ callers) id → NoneTwice t → ⊥
+called_within p m id behind a callers e t (inside b h goes) running none = none-some _ h
+called_within p m id behind a callers e t (calls other called arguments rest does is_called count stack effect goes) running none =
+    let ids : id ≡ other = cc in
+    let same : id ≡ called.id = ids ∙ sym is_called.named in (subst NoneTwice goes none).0 (subst (λ (x : MethodId). IsRunning (a ∷ callers) x) same running)
+called_within p m id behind a callers e t (reads v n fits does shows goes) running none = cc
+called_within p m id behind a callers e t (ends does alone effect goes) running none = cc
+called_within p m id behind a callers e t (returns caller others calling call called does under is_calling at effect goes) running none = cc
+called_within p m id behind a callers e t (returns_int n below caller others calling call called does stack under is_calling at effect goes) running none = cc
 
 calls_itself : (p : Prog) (k : ℕ) (s : List Activation) (rest : List Move) → IsOrdered p → CallsItself p s → AreSteps p k s rest → ((m : Move) (others : List Move) → rest ≡ m ∷ others → NoneTwice m.state) → ⊥
 calls_itself p k s [] ordered itself steps none = let never : [] ≡ itself.next.top ∷ itself.next.callers = sym steps ∙ itself.next.stands in cc
 calls_itself p k s (m ∷ rest) ordered itself steps none =
-    called_within p itself.next.method.frame.monitor itself.instr itself.id (itself.next.top.pc + length_of itself.instr) itself.next.top itself.next.callers m.effect m.state (doing_of itself.instr (operand.Method itself.id))
-    (static_is itself.instr itself.id) (outcome_next p k s itself.instr (operand.Method itself.id) itself.next m.effect m.state ordered steps.0)
+    called_within p itself.next.method.frame.monitor itself.id (itself.next.top.pc + length_of (instr.Invokestatic itself.index)) itself.next.top itself.next.callers m.effect m.state
+    (outcome_next p k s (instr.Invokestatic itself.index) (operand.Method itself.id) itself.next m.effect m.state ordered steps.0)
     (subst (λ (x : List Activation). IsRunning x itself.id) itself.next.stands itself.running) (none m rest refl)
 
 -- ---- All refusals

@@ -219,8 +219,8 @@ nothing_no_step p k a callers s stands nothing e t taken = go (normal p k s e t 
 
 -- ---- The step function
 
-next_is : (p : Prog) (m : Method) (i : Instr) (o q : Operand) (a : Activation) (callers s : List Activation) → s ≡ a ∷ callers → IsMethod p a.method m → IsInstruction m a.pc i o → o ≡ q → ComesNext p s i q
-next_is p m i o q a callers s stands is_m at same = record { top = a; callers = callers; stands = stands; method = m; is_method = is_m; instruction = instruction_is m a.pc i i o q refl same at }
+next_is : (p : Prog) (m : Method) (i j : Instr) (o q : Operand) (a : Activation) (callers s : List Activation) → s ≡ a ∷ callers → IsMethod p a.method m → IsInstruction m a.pc i o → i ≡ j → o ≡ q → ComesNext p s j q
+next_is p m i j o q a callers s stands is_m at same names = record { top = a; callers = callers; stands = stands; method = m; is_method = is_m; instruction = instruction_is m a.pc i j o q same names at }
 
 acts_at : (p : Prog) (m : Method) (i : Instr) (o : Operand) (a : Activation) (callers s : List Activation) (read : Option ℤ) (r : Result Effect TraceEnd) (t : List Activation) → s ≡ a ∷ callers → IsMethod p a.method m →
     ((other : Method) → IsMethod p a.method other → m ≡ other) → IsByPc m.listing → IsInstruction m a.pc i o → a.pc < 2 ^ 32 →
@@ -235,15 +235,14 @@ acts_at p m i o a callers s read (Err end.NotLinked) t stands is_m only by_pc at
     inl (λ k e u taken. none e u (outcome_here p m i o a callers s e u stands is_m only by_pc at (normal p k s e u taken)))
 acts_at p m i o a callers s read (Err end.NotLinked) t stands is_m only by_pc at low (inr running) =
     let r = is_call i o running.0 running.1 in
-    inr (record { instr = i; id = running.0; next = next_is p m i o (operand.Method running.0) a callers s stands is_m at r.names; running = subst (λ (x : List Activation). IsRunning x running.0) (sym stands) running.2 })
+    inr (record { index = r.index; id = running.0; next = next_is p m i (instr.Invokestatic r.index) o (operand.Method running.0) a callers s stands is_m at r.instr r.names; running = subst (λ (x : List Activation). IsRunning x running.0) (sym stands) running.2 })
 acts_at p m i o a callers s read (Err end.ReadsShort) t stands is_m only by_pc at low short =
     let r = is_read i o short.1.0 short.1.1 in (
       short.0,
       record {
-        instr = i;
+        index = r.index;
         variable = short.1.0;
-        next = next_is p m i o (operand.Variable short.1.0) a callers s stands is_m at r.names;
-        reads = ap (λ (q : Operand). doing_of i q) (sym r.names) ∙ short.1.1;
+        next = next_is p m i (instr.Getstatic r.index) o (operand.Variable short.1.0) a callers s stands is_m at r.instr r.names;
       },
     )
 acts_at p m i o a callers s read (Err end.Memory) t stands is_m only by_pc at low h = tt

@@ -4,6 +4,7 @@ use Rattle.std.specs.Option.{option_map}
 use Rattle.opcodes.specs.Instructions.{length_of}
 use Rattle.opcodes.specs.Listing.{IsByPc}
 use Rattle.opcodes.specs.declared.instruction.Instr.{Instr}
+use Rattle.opcodes.specs.declared.instruction.Instr.TheVariants.{Getstatic, Invokestatic}
 use Rattle.program.specs.Ints.{IsInt}
 use Rattle.program.specs.Program.{Prog, IsMethod, IsInstruction}
 use Rattle.program.specs.Step.{JavaValue, Activation, Effect, Step, ComesNext, entered_with, silent, shows, Int}
@@ -13,7 +14,6 @@ use Rattle.program.specs.declared.method.MethodId.{MethodId}
 use Rattle.program.specs.declared.method.Operand.{Operand}
 use Rattle.program.specs.declared.method.Operand.TheVariants as operand
 use Rattle.thread_meaning.specs.Changes.{change_of, activation_of, CannotTake}
-use Rattle.thread_meaning.specs.Doings.{doing_of}
 use Rattle.thread_meaning.specs.Paths.{read_in}
 use Rattle.thread_meaning.specs.declared.code.Here.{Here}
 use Rattle.thread_meaning.specs.declared.doing.Doing.{Doing}
@@ -120,17 +120,16 @@ NoStep p k s = (e : Effect) (t : List Activation) → Step p k s e t → ⊥
 
 -- the next instruction calls a method that is being run
 pub record CallsItself (p : Prog) (s : List Activation) : Type 0 where
-  pub instr : Instr
+  pub index : ℕ
   pub id : MethodId
-  pub next : ComesNext p s instr (operand.Method id)
+  pub next : ComesNext p s (Invokestatic index) (operand.Method id)
   pub running : IsRunning s id
 
 -- the next instruction reads a variable
 pub record NextReads (p : Prog) (s : List Activation) : Type 0 where
-  pub instr : Instr
+  pub index : ℕ
   pub variable : ℕ
-  pub next : ComesNext p s instr (operand.Variable variable)
-  pub reads : doing_of instr (operand.Variable variable) ≡ doing.Read variable
+  pub next : ComesNext p s (Getstatic index) (operand.Variable variable)
 
 -- the innermost method stands at a place that has 32 bits
 abbrev pub IsLow : List Activation → Type 0
