@@ -1,5 +1,5 @@
 -- Where the trace is refused there is no run.
-use Rattle.std.proofs.Common.{◌≡◌, ◌≢◌, ◌<◌, ◌≤◌, ◌+◌, ◌++◌, ◌⊎◌, ℕ, ℤ, suc, Bool, true, false, List, [], ◌∷◌, Option, Some, None, All, length, map, count_by, slice_get, refl, sym, ap, subst, ◌∙◌, arith, inl, inr, cond, Contains}
+use Rattle.std.proofs.Common.{◌≡◌, ◌≢◌, ◌<◌, ◌≤◌, ◌+◌, ◌++◌, ◌⊎◌, ℕ, ℤ, suc, Bool, true, false, List, [], ◌∷◌, Option, Some, None, All, length, map, count_by, slice_get, refl, sym, ap, subst, ◌∙◌, arith, inl, inr, cond, Contains, Result, Ok, Err, IfOk, IfErr}
 use Rattle.std.proofs.lemmas.List.{append-nil, length-append}
 use Rattle.std.proofs.lemmas.List.Sums.{sum_by-append}
 use Rattle.std.proofs.lemmas.List.Elements.{Contains-append_right}
@@ -23,13 +23,14 @@ use Rattle.thread_meaning.specs.Changes.{change_of}
 use Rattle.thread_meaning.specs.Doings.{doing_of}
 use Rattle.thread_meaning.specs.Outcomes.{Outcome, NoneTwice, IsRunning, NextReads, CallsItself, inside, reads, calls, ends, returns, returns_int}
 use Rattle.thread_meaning.specs.Paths.{IsOrdered, Leads, read_in, reads_of}
-use Rattle.thread_meaning.specs.Tracing.{IsRefused, Arrives, HasPlainRun, IsReadsShort, IsReadsLeft, IsPastJumps, IsPastWidth, IsNotLinked, no_entry, no_step, within}
+use Rattle.thread_meaning.specs.Tracing.{IsRefused, Arrives, HasRun, HasPlainRun, FindsRun, IsReadsShort, IsReadsLeft, IsPastJumps, IsPastWidth, IsNotLinked, no_entry, no_step, within}
 use Rattle.thread_meaning.specs.declared.doing.Doing.{Doing}
 use Rattle.thread_meaning.specs.declared.doing.Doing.TheVariants as doing
 use Rattle.thread_meaning.specs.declared.end.TraceEnd.{TraceEnd}
 use Rattle.thread_meaning.specs.declared.end.TraceEnd.TheVariants as end
+use Rattle.thread_meaning.specs.declared.walk.Trace.{Trace}
 use Rattle.thread_meaning.proofs.Normal.{normal}
-use Rattle.thread_meaning.proofs.Runs.{Passes, passes, one_entry, reads_are, reads_first, same_first, no_step_behind, nothing_behind}
+use Rattle.thread_meaning.proofs.Runs.{Passes, passes, one_entry, reads_are, reads_first, same_first, no_step_behind, nothing_behind, one_run}
 use Rattle.thread_meaning.proofs.Stepping.{outcome_here}
 use Rattle.thread_meaning.proofs.Unique.{one_method}
 
@@ -163,3 +164,20 @@ refusals_are_exact p k values bounds end.PastWidth events printed ordered h othe
     h.wide (subst (λ (f : Effect). All (Fits bounds.width) f.ints) n.effect (all_move (λ (m : Move). All (Fits bounds.width) m.effect.ints) h.moves r.moves n.move x.rest n.others r.in_bounds.narrow x.is n.is))
 refusals_are_exact p k values bounds end.NotLinked events printed ordered h other r = not_linked p k values bounds events printed ordered h r
 refusals_are_exact p k values bounds end.Memory events printed ordered h other r = other refl
+
+not_memory : (e : TraceEnd) → (e ≡ end.Memory) ⊎ (e ≢ end.Memory)
+not_memory end.Memory = inl refl
+not_memory end.ReadsShort = inr (λ h. cc)
+not_memory (end.ReadsLeft n) = inr (λ h. cc)
+not_memory end.PastJumps = inr (λ h. cc)
+not_memory end.PastWidth = inr (λ h. cc)
+not_memory end.NotLinked = inr (λ h. cc)
+
+pub finds_run : (p : Prog) (k : ℕ) (values : List ℤ) (bounds : Bounds) (r : Result Trace TraceEnd) → IsOrdered p → IfOk r (λ t. HasRun p k values bounds t.events t.printed) → IfErr r (IsRefused p k values bounds) →
+    FindsRun p k values bounds r
+finds_run p k values bounds (Ok t) ordered ok err = λ events printed plain.
+    let same = one_run p k ok.moves plain.moves values t.events events t.printed printed ordered ok.run plain.run in (same.1, same.2)
+finds_run p k values bounds (Err e) ordered ok err = λ events printed plain. elim (not_memory e) [
+  | inl is ↦ is
+  | inr other ↦ absurd (refusals_are_exact p k values bounds e events printed ordered err other plain)
+]

@@ -1,5 +1,5 @@
 -- The trace of a thread: its run, or why there is none in bounds.
-use Rattle.std.specs.Prelude.{◌≡◌, ◌≢◌, ◌<◌, ◌≤◌, ◌+◌, ◌++◌, ◌⊎◌, ℕ, ℤ, Bool, true, false, List, [], ◌∷◌, Option, Some, None, All, length, count_by, drop, slice_get, if◌then◌else◌}
+use Rattle.std.specs.Prelude.{◌≡◌, ◌≢◌, ◌<◌, ◌≤◌, ◌+◌, ◌++◌, ◌⊎◌, ℕ, ℤ, Bool, true, false, List, [], ◌∷◌, Option, Some, None, Result, Ok, Err, All, length, count_by, drop, slice_get, if◌then◌else◌}
 use Rattle.std.specs.List.{filter_map, cons_option}
 use Rattle.std.specs.Option.{option_and_then}
 use Rattle.java_int.specs.JavaInt.{Fits}
@@ -96,6 +96,11 @@ pub record HasPlainRun (p : Prog) (k : ℕ) (reads : List ℤ) (bounds : Bounds)
   pub run : IsRun p k moves reads events printed
   pub in_bounds : InBounds moves bounds.jumps bounds.width
   pub never_twice : NeverTwice moves
+
+-- where there is such a run, the answer is that run; want of memory alone is free
+abbrev pub FindsRun : Prog → ℕ → List ℤ → Bounds → Result Trace TraceEnd → Type 0
+FindsRun p k reads bounds (Ok t) = (events : List Event) (printed : List ℤ) → HasPlainRun p k reads bounds events printed → (t.events ≡ events) × (t.printed ≡ printed)
+FindsRun p k reads bounds (Err e) = (events : List Event) (printed : List ℤ) → HasPlainRun p k reads bounds events printed → e ≡ end.Memory
 
 -- ---- The walk along the run
 

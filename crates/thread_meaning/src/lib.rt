@@ -18,8 +18,7 @@ mod tracing;
 mod value;
 mod walk;
 
-pub use code::{Here, look, method_of};
-pub use decoding::what_it_does;
+pub use code::Here;
 pub use doing::{Binary, Comparison, Doing, Test, Unary};
 pub use effect::Effect;
 pub use end::TraceEnd;
@@ -29,4 +28,4 @@ pub use frames::Frames;
 pub use stack::Stack;
 pub use tracing::trace;
 pub use value::Value;
-pub use walk::{Trace, Walk, begin};
+pub use walk::{Trace, Walk};

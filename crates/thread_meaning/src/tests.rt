@@ -3,6 +3,7 @@
 ghost use Rattle.std.specs.Prelude.{◌≡◌, ◌<◌, ◌≤◌, IfOk, length};
 ghost use Rattle.program.specs.Program.{HasOperands};
 
+use crate::code::method_of;
 use crate::{Trace, TraceEnd, trace};
 use line_text::bounds::Bounds;
 use opcodes::{Instr, Listing};
@@ -87,8 +88,10 @@ fn calling(
 {
     let mut program = alone(rt, alloc, code)?;
     let method = method(rt, alloc, HELP, called, help)?;
-    assert!(rt; !program.methods().contains(&method.id));
-    program.add_method(method)?;
+    match method_of(&program, method.id) {
+        Ok(_) => assert!(rt; false, "the method is there"),
+        Err(_) => program.add_method(method)?,
+    }
     Ok(program)
 }
 

@@ -2,13 +2,34 @@
 
 ghost use Rattle.std.specs.Prelude.{◌<◌, length, IfOk, IfErr};
 ghost use Rattle.line_text.specs.Bounds.{IsBounds};
-ghost use Rattle.thread_meaning.specs.Tracing.{HasRun, IsRefused};
+ghost use Rattle.thread_meaning.specs.Tracing.{HasRun, IsRefused, FindsRun};
+ghost use Rattle.thread_meaning.specs.Paths.{IsOrdered};
 
 use crate::end::TraceEnd;
 use crate::walk::{Trace, begin};
 use line_text::bounds::Bounds;
 use program::Program;
 use std::alloc::Global;
+
+/// Goes along the run from its entry on.
+fn follow(
+    alloc: Global,
+    program: &Program,
+    thread: u32,
+    reads: &[i32],
+    bounds: &Bounds,
+) -> Result<Trace, TraceEnd>
+    requires thread { thread < length program.now.threads }
+    requires bounds { IsBounds bounds.now }
+    ensures ok { IfOk result (λ t. HasRun program.now thread reads.now bounds.now t.events t.printed) }
+    ensures err { IfErr result (IsRefused program.now thread reads.now bounds.now) }
+{
+    let mut walk = begin(alloc, program, thread, bounds)?;
+    'steps: while !walk.frames.is_empty() {
+        walk.advance(alloc, program, reads, bounds)?;
+    }
+    walk.finish(reads.len())
+}
 
 /// The trace of a thread, for the values of its reads, within bounds.
 ///
@@ -27,10 +48,7 @@ pub fn trace(
     requires bounds { IsBounds bounds.now }
     ensures ok { IfOk result (λ t. HasRun program.now thread reads.now bounds.now t.events t.printed) }
     ensures err { IfErr result (IsRefused program.now thread reads.now bounds.now) }
+    ensures exactly { IsOrdered program.now → FindsRun program.now thread reads.now bounds.now result }
 {
-    let mut walk = begin(alloc, program, thread, bounds)?;
-    'steps: while !walk.frames.is_empty() {
-        walk.advance(alloc, program, reads, bounds)?;
-    }
-    walk.finish(reads.len())
+    follow(alloc, program, thread, reads, bounds)
 }

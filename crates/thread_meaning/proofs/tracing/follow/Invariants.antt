@@ -2,7 +2,7 @@
 use Rattle.std.proofs.Common.{length}
 use Rattle.thread_meaning.proofs.Measure.{left_to_do}
 use Rattle.thread_meaning.proofs.UnderWay.{UnderWay}
-use Rattle.thread_meaning.proofs.tracing.trace.Given as goal
+use Rattle.thread_meaning.proofs.tracing.follow.Given as goal
 
 abbrev pub invariant-steps : goal.invariant-steps
 invariant-steps l = UnderWay l.program l.thread l.reads l.bounds l.walk
