@@ -1,0 +1,40 @@
+//! What main prints within bounds.
+
+ghost use Rattle.std.specs.Prelude.{IfOk};
+ghost use Rattle.line_text.specs.Bounds.{IsBounds};
+ghost use Rattle.program.specs.Straight.{IsStraight};
+ghost use Rattle.straight.specs.Runs.{IsRunOf};
+ghost use Rattle.straight_trace.specs.Within.{TellsPrinted};
+
+use crate::reads::values_read;
+use line_text::Values;
+use line_text::bounds::Bounds;
+use ports::Memory;
+use program::Program;
+use std::alloc::Global;
+use straight::StraightRun;
+use thread_meaning::{Trace, TraceEnd, trace};
+
+/// What main prints within bounds: the values of the run, or `None` exactly where an int of the run is too wide.
+///
+/// # Errors
+/// `Memory` where there is no room.
+pub fn printed_within(
+    alloc: Global,
+    program: &Program,
+    run: &StraightRun,
+    bounds: &Bounds,
+) -> Result<Option<Values>, Memory>
+    requires straight { IsStraight program.now }
+    requires run { IsRunOf program.now run.now }
+    requires bounds { IsBounds bounds.now }
+    ensures { IfOk result (TellsPrinted run.now bounds.now) }
+{
+    let ints = run.ints.as_slice();
+    let reads = values_read(alloc, program, ints)?;
+    match trace(alloc, program, 0, reads.as_slice(), bounds) {
+        Ok(Trace { events: _, printed }) => Ok(Some(printed)),
+        Err(TraceEnd::Memory) => Err(Memory),
+        Err(_) => Ok(None),
+    }
+}
