@@ -1,8 +1,6 @@
 -- The values that main's reads give, among the ints that its run pushes or stores.
-use Rattle.std.specs.Prelude.{◌≡◌, ◌++◌, ℤ, Bool, true, false, List, [], ◌∷◌, drop, take, if◌then◌else◌}
+use Rattle.std.specs.Prelude.{◌++◌, ℤ, Bool, true, false, List, [], ◌∷◌, drop, take, if◌then◌else◌}
 use Rattle.opcodes.specs.declared.listed.Listed.{Listed}
-use Rattle.program.specs.Program.{Prog}
-use Rattle.program.specs.declared.method.Method.{Method}
 use Rattle.program.specs.declared.method.Operand.{Operand}
 use Rattle.straight.specs.Doing.{doing_of}
 use Rattle.straight.specs.declared.doing.Doing.{Doing}
@@ -32,7 +30,3 @@ abbrev pub reads_among : List Listed → List Operand → List ℤ → List ℤ
 reads_among [] names ints = []
 reads_among (item ∷ items) [] ints = []
 reads_among (item ∷ items) (o ∷ names) ints = read_by (doing_of item.instr o) ints ++ reads_among items names (left_by (doing_of item.instr o) ints)
-
--- these are the values that the reads of the program's one method give
-abbrev pub AreRead : Prog → List ℤ → List ℤ → Type 0
-AreRead p ints reads = (m : Method) → p.methods ≡ m ∷ [] → reads ≡ reads_among m.listing m.operands ints

@@ -30,8 +30,13 @@ pub fn printed_within(
     requires bounds { IsBounds bounds.now }
     ensures { IfOk result (TellsPrinted run.now bounds.now) }
 {
-    let ints = run.ints.as_slice();
-    let reads = values_read(alloc, program, ints)?;
+    let main = program.method(program.entry(0));
+    let reads = values_read(
+        alloc,
+        main.listing.as_slice(),
+        main.operands.as_slice(),
+        run.ints.as_slice(),
+    )?;
     match trace(alloc, program, 0, reads.as_slice(), bounds) {
         Ok(Trace { events: _, printed }) => Ok(Some(printed)),
         Err(TraceEnd::Memory) => Err(Memory),

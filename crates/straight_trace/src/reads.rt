@@ -1,14 +1,13 @@
 //! The values that the reads of a straight run give.
 
-ghost use Rattle.std.specs.Prelude.{◌≡◌, ◌<◌, ◌+◌, ◌++◌, [], drop, if◌then◌else◌, take, IfOk, OnOk};
-ghost use Rattle.program.specs.Straight.{IsStraight};
+ghost use Rattle.std.specs.Prelude.{◌≡◌, ◌<◌, ◌+◌, ◌++◌, [], drop, length, if◌then◌else◌, take, IfOk, OnOk};
 ghost use Rattle.straight.specs.Doing.{doing_of};
-ghost use Rattle.straight_trace.specs.Reads.{AreRead, has_int, is_read};
+ghost use Rattle.straight_trace.specs.Reads.{has_int, is_read, reads_among};
 
 use line_text::Values;
-use opcodes::Instr;
+use opcodes::{Instr, Listed};
 use ports::Memory;
-use program::{Operand, Program};
+use program::Operand;
 use std::alloc::Global;
 
 /// Whether an instruction of straight code reads a variable.
@@ -59,21 +58,21 @@ fn behind(next: usize, moves: bool) -> usize
     if moves { next + 1 } else { next }
 }
 
-/// The values that main's reads give, where these are the ints that its run pushes or stores: each instruction that has an
-/// int has one, and that of a read is the value read.
+/// The values that the reads of a run along these instructions give, where these are the ints that it pushes or stores: each
+/// instruction that has an int has one, and that of a read is the value read.
 pub(crate) fn values_read(
     alloc: Global,
-    program: &Program,
+    listing: &[Listed],
+    operands: &[Operand],
     ints: &[i32],
 ) -> Result<Values, Memory>
-    requires { IsStraight program.now }
-    ensures { IfOk result (AreRead program.now ints.now) }
+    requires { length listing.now ≡ length operands.now }
+    ensures { IfOk result (λ reads. reads ≡ reads_among listing.now operands.now ints.now) }
 {
-    let main = program.method(program.entry(0));
     let mut reads = Values::new(alloc);
     let mut next = 0;
-    for (place, item) in main.listing.as_slice().iter().enumerate() {
-        let operand = main.operands.as_slice()[place];
+    for (place, item) in listing.iter().enumerate() {
+        let operand = operands[place];
         pick(&mut reads, ints, next, reads_variable(&item.instr, &operand))?;
         next = behind(next, moves_int(&item.instr, &operand));
     }
