@@ -1,9 +1,11 @@
 -- What the trace of main tells of the straight run.
-use Rattle.std.proofs.Common.{◌≡◌, ◌↔◌, ◌++◌, ℕ, ℤ, zero, List, [], ◌∷◌, Option, Some, None, Result, Ok, Err, IfOk, map, length, refl, sym, ◌∙◌, ap, subst, arith, All, Contains}
-use Rattle.std.proofs.lemmas.List.Elements.{All-nil, All-append, All-head, All-tail, All-cons}
+use Rattle.std.proofs.Common.{◌≡◌, ◌↔◌, ◌++◌, ℕ, ℤ, zero, List, [], ◌∷◌, Option, Some, None, Result, Ok, Err, IfOk, map, length, refl, sym, ◌∙◌, ap, subst, arith, All, Contains, FitsSigned, w32}
+use Rattle.std.proofs.lemmas.List.Elements.{All-nil, All-append, All-head, All-tail, All-cons, All-weaker}
+use Rattle.std.proofs.lemmas.Int.{ints}
 use Rattle.java_int.specs.JavaInt.{Fits}
 use Rattle.line_text.specs.declared.bounds.Bounds.{Bounds}
 use Rattle.line_text.specs.Ints.{AreInts}
+use Rattle.opcodes.specs.Listing.{IsByPc}
 use Rattle.opcodes.specs.declared.listed.Listed.{Listed}
 use Rattle.program.specs.Bounds.{InBounds}
 use Rattle.program.specs.Program.{Prog}
@@ -12,6 +14,7 @@ use Rattle.program.specs.Step.{Activation}
 use Rattle.program.specs.Straight.{IsStraight}
 use Rattle.program.specs.declared.event.Event.{Event}
 use Rattle.program.specs.declared.method.Method.{Method}
+use Rattle.program.specs.declared.method.Operand.{Operand}
 use Rattle.program.proofs.Lists.{contains_nil, contains_here, contains_map, contains_mapped}
 use Rattle.action_orders.specs.declared.action.ActionRef.{ActionRef}
 use Rattle.action_orders.specs.declared.execution.ThreadPart.{ThreadPart}
@@ -32,13 +35,14 @@ use Rattle.thread_meaning.specs.declared.end.TraceEnd.TheVariants as end
 use Rattle.thread_meaning.specs.declared.walk.Trace.{Trace}
 use Rattle.thread_meaning.proofs.Runs.{one_run}
 use Rattle.straight_trace.specs.Reads.{reads_among}
-use Rattle.straight_trace.specs.Within.{TellsPrinted}
+use Rattle.straight_trace.specs.Within.{TellsPrinted, IsPrintedBy}
 use Rattle.straight_trace.proofs.Along.{run_reads}
+use Rattle.straight_trace.proofs.Ordered.{is_ordered}
 
 -- ---- The straight run as a run of thread 0
 
 -- the names of the default writes
-defaults_of : Prog → List ActionRef
+abbrev defaults_of : Prog → List ActionRef
 defaults_of p = map (λ v. name_of (Default v)) (variables p)
 
 are_defaults : (p : Prog) → AreDefaults p (defaults_of p)
@@ -125,6 +129,13 @@ not_found p h bounds e exactly other fits = other (exactly main.events (printed_
     main : IsMainRun p h bounds
     main = main_run p h bounds fits
 
+-- an int has 32 bits
+one_wide : (z : ℤ) → FitsSigned w32 z → Fits 32 z
+one_wide z h = (omega (arith, ints), omega (arith, ints))
+
+all_wide : (values : List ℤ) → AreInts values → All (Fits 32) values
+all_wide values h = All-weaker (λ (z : ℤ). FitsSigned w32 z) (Fits 32) one_wide values h
+
 -- what is known where the trace has been asked for
 pub record IsAsked (p : Prog) (h : IsStraight p) (run : StraightRun) (reads : List ℤ) : Type 0 where
   pub ordered : IsOrdered p
@@ -132,7 +143,7 @@ pub record IsAsked (p : Prog) (h : IsStraight p) (run : StraightRun) (reads : Li
   pub wide : All (Fits 32) run.ints
   pub reads_are : reads ≡ reads_among h.main.listing h.main.operands run.ints
 
-pub tells_some : (p : Prog) (h : IsStraight p) (run : StraightRun) (reads : List ℤ) (bounds : Bounds) (events : List Event) (printed : List ℤ) → IsAsked p h run reads →
+tells_some : (p : Prog) (h : IsStraight p) (run : StraightRun) (reads : List ℤ) (bounds : Bounds) (events : List Event) (printed : List ℤ) → IsAsked p h run reads →
     HasRun p 0 reads bounds events printed → TellsPrinted run bounds (Some printed)
 tells_some p h run reads bounds events printed a has =
     let ints : run.ints ≡ ints_of p h.main = a.is_run.ints h.main h.method in
@@ -140,9 +151,32 @@ tells_some p h run reads bounds events printed a has =
     (subst (λ (xs : List ℤ). HasRun p 0 xs bounds events printed) (a.reads_are ∙ ap (reads_among h.main.listing h.main.operands) ints) has) in
     (both.0 ∙ sym (a.is_run.printed h.main h.method), subst (All (Fits bounds.width)) (sym ints) both.1)
 
-pub tells_none : (p : Prog) (h : IsStraight p) (run : StraightRun) (reads : List ℤ) (bounds : Bounds) (e : TraceEnd) → IsAsked p h run reads → FindsRun p 0 reads bounds (Err e) → (e ≡ end.Memory → ⊥) →
+tells_none : (p : Prog) (h : IsStraight p) (run : StraightRun) (reads : List ℤ) (bounds : Bounds) (e : TraceEnd) → IsAsked p h run reads → FindsRun p 0 reads bounds (Err e) → (e ≡ end.Memory → ⊥) →
     TellsPrinted run bounds None
 tells_none p h run reads bounds e a exactly other fits =
     let ints : run.ints ≡ ints_of p h.main = a.is_run.ints h.main h.method in
     not_found p h bounds e (subst (λ (xs : List ℤ). FindsRun p 0 xs bounds (Err e)) (a.reads_are ∙ ap (reads_among h.main.listing h.main.operands) ints) exactly) other
     (subst (All (Fits bounds.width)) ints fits)
+
+found_told : (p : Prog) (h : IsStraight p) (run : StraightRun) (reads : List ℤ) (bounds : Bounds) (traced : Result Trace TraceEnd) (printed : Option (List ℤ)) → IsAsked p h run reads →
+    IfOk traced (λ t. HasRun p 0 reads bounds t.events t.printed) → FindsRun p 0 reads bounds traced → IsPrintedBy traced printed → TellsPrinted run bounds printed
+found_told p h run reads bounds (Ok t) printed a has exactly is = subst (TellsPrinted run bounds) (sym is) (tells_some p h run reads bounds t.events t.printed a has)
+found_told p h run reads bounds (Err e) printed a has exactly (is, other) = subst (TellsPrinted run bounds) (sym is) (tells_none p h run reads bounds e a exactly other)
+
+pub all_told : {E : Type 0} (p : Prog) (h : IsStraight p) (run : StraightRun) (reads : List ℤ) (bounds : Bounds) (traced : Result Trace TraceEnd) (answer : Result (Option (List ℤ)) E) → IsAsked p h run reads →
+    IfOk traced (λ t. HasRun p 0 reads bounds t.events t.printed) → (IsOrdered p → FindsRun p 0 reads bounds traced) → IfOk answer (IsPrintedBy traced) → IfOk answer (TellsPrinted run bounds)
+all_told p h run reads bounds traced (Ok printed) a has exactly is = found_told p h run reads bounds traced printed a has (exactly a.ordered) is
+all_told p h run reads bounds traced (Err e) a has exactly is = is
+
+-- what the calls before the trace tell
+pub asked : (p : Prog) (h : IsStraight p) (m : Method) (run : StraightRun) (items : List Listed) (names : List Operand) (ints reads : List ℤ) → h.main ≡ m → IsRunOf p run → items ≡ m.listing → IsByPc m.listing →
+    names ≡ m.operands → ints ≡ run.ints → AreInts run.ints → reads ≡ reads_among items names ints → IsAsked p h run reads
+asked p h m run items names ints reads same is_run items_are by_pc names_are ints_are wide reads_are = record {
+  ordered = is_ordered p h (subst (λ (k : Method). IsByPc k.listing) (sym same) by_pc);
+  is_run = is_run;
+  wide = all_wide run.ints wide;
+  reads_are = reads_are
+      ∙ ap (λ (xs : List Listed). reads_among xs names ints) (items_are ∙ ap (λ (k : Method). k.listing) (sym same))
+      ∙ ap (λ (ns : List Operand). reads_among h.main.listing ns ints) (names_are ∙ ap (λ (k : Method). k.operands) (sym same))
+      ∙ ap (reads_among h.main.listing h.main.operands) ints_are;
+}

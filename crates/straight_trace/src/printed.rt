@@ -4,7 +4,7 @@ ghost use Rattle.std.specs.Prelude.{IfOk};
 ghost use Rattle.line_text.specs.Bounds.{IsBounds};
 ghost use Rattle.program.specs.Straight.{IsStraight};
 ghost use Rattle.straight.specs.Runs.{IsRunOf};
-ghost use Rattle.straight_trace.specs.Within.{TellsPrinted};
+ghost use Rattle.straight_trace.specs.Within.{IsPrintedBy, TellsPrinted};
 
 use crate::reads::values_read;
 use line_text::Values;
@@ -14,6 +14,17 @@ use program::Program;
 use std::alloc::Global;
 use straight::StraightRun;
 use thread_meaning::{Trace, TraceEnd, trace};
+
+/// What a trace prints, or `None` where it was refused.
+fn printed_by(traced: Result<Trace, TraceEnd>) -> Result<Option<Values>, Memory>
+    ensures { IfOk result (IsPrintedBy traced) }
+{
+    match traced {
+        Ok(Trace { events: _, printed }) => Ok(Some(printed)),
+        Err(TraceEnd::Memory) => Err(Memory),
+        Err(_) => Ok(None),
+    }
+}
 
 /// What main prints within bounds: the values of the run, or `None` exactly where an int of the run is too wide.
 ///
@@ -37,9 +48,5 @@ pub fn printed_within(
         main.operands.as_slice(),
         run.ints.as_slice(),
     )?;
-    match trace(alloc, program, 0, reads.as_slice(), bounds) {
-        Ok(Trace { events: _, printed }) => Ok(Some(printed)),
-        Err(TraceEnd::Memory) => Err(Memory),
-        Err(_) => Ok(None),
-    }
+    printed_by(trace(alloc, program, 0, reads.as_slice(), bounds))
 }
