@@ -1,5 +1,5 @@
 -- A run of straight code reads what stands among its ints at its reads.
-use Rattle.std.proofs.Common.{◌≡◌, ◌+◌, ◌++◌, ℕ, ℤ, List, [], ◌∷◌, Option, Some, None, length, slice_get, arith, refl, sym, ◌∙◌, ap, subst}
+use Rattle.std.proofs.Common.{◌≡◌, ◌+◌, ◌++◌, ℕ, ℤ, List, [], ◌∷◌, Option, length, drop, slice_get, arith, refl, sym, ◌∙◌, ap, subst}
 use Rattle.std.specs.List.{filter_map, cons_option}
 use Rattle.std.proofs.lemmas.List.{append-nil}
 use Rattle.std.proofs.lemmas.List.Elements.{filter_map-append}
@@ -24,12 +24,12 @@ use Rattle.straight.proofs.Running.{IsAt, next_at, stands_at}
 use Rattle.straight.proofs.UnderWay.{main_is}
 use Rattle.straight_executions.specs.OneRun.{moved_ints}
 use Rattle.straight_executions.proofs.Steps.{main_at, NamesSome, Does, pushes_int, reads, writes, pushes_out, prints, IsStepOf, IsEndOf, step_does, step_ends, no_step}
-use Rattle.straight_trace.specs.Reads.{read_by, left_by, reads_among}
+use Rattle.straight_trace.specs.Reads.{move_of, used_by, read_by, reads_among}
 
 -- what a step reads is the first of the ints from it on, and those behind it are left
 pub record Reads (d : Doing) (effect : Effect) (events : List Event) (ints : List ℤ) : Type 0 where
-  pub read : filter_map read_of (cons_option effect.event events) ≡ read_by d (effect.ints ++ ints) ++ filter_map read_of events
-  pub left : left_by d (effect.ints ++ ints) ≡ ints
+  pub read : filter_map read_of (cons_option effect.event events) ≡ read_by (move_of d) (effect.ints ++ ints) ++ filter_map read_of events
+  pub left : drop (used_by (move_of d)) (effect.ints ++ ints) ≡ ints
 
 step_reads : (d : Doing) (before after : List JavaValue) (effect : Effect) (events : List Event) (ints : List ℤ) → Does d before effect after → Reads d effect events ints
 step_reads d before after effect events ints (pushes_int n d_is effect_is after_is) = rw (d_is, effect_is) (record { read = refl; left = refl })
@@ -77,7 +77,7 @@ ends p h k pc j stack locals item o mv moves last at (here, rest) = rw (last.nam
 goes : (item next : Listed) (items : List Listed) (o : Operand) (names : List Operand) (mv : Move) (moves : List Move) → Reads (doing_of item.instr o) mv.effect (events_of moves) (moved_ints moves) →
     ReadAmong (next ∷ items) names moves → ReadAmong (item ∷ next ∷ items) (o ∷ names) (mv ∷ moves)
 goes item next items o names mv moves r rest = r.read
-    ∙ ap (λ (xs : List ℤ). read_by (doing_of item.instr o) (mv.effect.ints ++ moved_ints moves) ++ xs) (rest ∙ ap (reads_among (next ∷ items) names) (sym r.left))
+    ∙ ap (λ (xs : List ℤ). read_by (move_of (doing_of item.instr o)) (mv.effect.ints ++ moved_ints moves) ++ xs) (rest ∙ ap (reads_among (next ∷ items) names) (sym r.left))
 
 -- the run from here on
 read_from : (p : Prog) (h : IsStraight p) (k pc j : ℕ) (types : List StackType) (stack : List JavaValue) (locals : List (Option JavaValue)) (items : List Listed) (names : List Operand) (moves : List Move) →

@@ -1,7 +1,6 @@
 -- The type of a program's method and listing, for a straight program.
-use Rattle.std.proofs.Common.{◌≡◌, ◌≢◌, ◌<◌, ℕ, List, [], ◌∷◌, length, sym, subst, arith, AllPairs, Contains}
+use Rattle.std.proofs.Common.{◌≢◌, List, [], ◌∷◌, sym, subst, arith, AllPairs, Contains}
 use Rattle.opcodes.specs.Listing.{IsByPc}
-use Rattle.opcodes.specs.declared.listed.Listed.{Listed}
 use Rattle.program.specs.Program.{Prog}
 use Rattle.program.specs.Straight.{IsStraight}
 use Rattle.program.specs.declared.method.Method.{Method}

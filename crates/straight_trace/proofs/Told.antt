@@ -1,5 +1,5 @@
 -- What the trace of main tells of the straight run.
-use Rattle.std.proofs.Common.{◌≡◌, ◌↔◌, ◌++◌, ℕ, ℤ, zero, List, [], ◌∷◌, Option, Some, None, Result, Ok, Err, IfOk, map, length, refl, sym, ◌∙◌, ap, subst, arith, All, Contains, FitsSigned, w32}
+use Rattle.std.proofs.Common.{◌≡◌, ℕ, ℤ, List, [], ◌∷◌, Option, Some, None, Result, Ok, Err, IfOk, map, refl, sym, ◌∙◌, ap, subst, arith, All, Contains, FitsSigned, w32}
 use Rattle.std.proofs.lemmas.List.Elements.{All-nil, All-append, All-head, All-tail, All-cons, All-weaker}
 use Rattle.std.proofs.lemmas.Int.{ints}
 use Rattle.java_int.specs.JavaInt.{Fits}

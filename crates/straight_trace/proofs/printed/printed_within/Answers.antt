@@ -1,8 +1,7 @@
 -- The trace finds the straight run, exactly where its ints fit.
-use Rattle.std.proofs.Common.{◌≡◌, ◌∙◌, ap, sym, subst, length, List}
-use Rattle.program.specs.declared.method.Method.{Method}
+use Rattle.std.proofs.Common.{◌∙◌, ap, sym, length}
 use Rattle.straight.proofs.UnderWay.{main_is, main_lengths}
-use Rattle.straight_trace.proofs.Told.{IsAsked, asked, all_told}
+use Rattle.straight_trace.proofs.Told.{asked, all_told}
 use Rattle.straight_trace.proofs.printed.printed_within.Goals as goal
 
 pub values_read-requires : goal.values_read-requires
