@@ -1,0 +1,4 @@
+pub mod Along
+pub mod Ordered
+pub mod Reading
+pub mod Told
