@@ -1,5 +1,5 @@
 -- From the run of a straight program to the answer.
-use Rattle.std.proofs.Common.{◌≡◌, ℕ, ℤ, List, Option, All, subst, sym, ap, ◌∙◌, get_or, length, ◌<◌}
+use Rattle.std.proofs.Common.{◌≡◌, ◌↔◌, ℕ, ℤ, Bool, false, List, Option, Some, None, IsTrue, All, subst, sym, ap, ◌∙◌, get_or, length, ◌<◌}
 use Rattle.java_int.specs.JavaInt.{Fits}
 use Rattle.line_text.specs.declared.outcome.OutcomePart.{OutcomePart}
 use Rattle.ports.specs.Growth.{IsTold}
@@ -18,6 +18,7 @@ use Rattle.straight.specs.declared.run.StraightRun.{StraightRun}
 use Rattle.straight_executions.specs.Laws.{StraightForbids}
 use Rattle.straight_sequence.specs.Defaults.{AreDefaultsInOrder}
 use Rattle.straight_sequence.specs.Steps.{IsSequenceOf}
+use Rattle.straight_trace.specs.Within.{TellsPrinted}
 use Rattle.verdict.specs.Judging.{IsShown, NamesMain, ShowsOutcome}
 use Rattle.verdict.specs.declared.question.Question.{Question}
 
@@ -63,3 +64,16 @@ module _ (p : Prog) (h : IsStraight p) (q : Question) (run : StraightRun) (is : 
         text = subst (λ (s : List SequenceStep). IsTold (sequence_text (execution_of p h.main) s) content) is_sequence
             (subst (λ (e : Exec). IsTold (sequence_text e sequence) content) (is.execution h.main h.method) told);
       }
+
+untrue : IsTrue false → ⊥
+untrue e = cc
+
+-- what the trace tells of the printed values
+module _ (q : Question) (run : StraightRun) where
+  pub shown_by : (values : List ℤ) (b : Bool) → TellsPrinted run q.bounds (Some values) → IsTrue b ↔ NamesMain q.outcome values → IsTrue b ↔ ShowsOutcome q run
+  shown_by values b (is, fit) names =
+      ((λ t. record { fit = fit; prints = subst (λ (xs : List ℤ). NamesMain q.outcome xs) is (names.0 t) }),
+      (λ s. names.1 (subst (λ (xs : List ℤ). NamesMain q.outcome xs) (sym is) s.prints)))
+
+  pub not_shown : TellsPrinted run q.bounds None → IsTrue false ↔ ShowsOutcome q run
+  not_shown h = ((λ t. absurd (untrue t)), (λ s. absurd (h s.fit)))

@@ -1,7 +1,6 @@
 //! The answer to a question on a straight program.
 
 ghost use Rattle.std.specs.Prelude.{◌≡◌, ◌≤◌, ◌↔◌, All, IfErr, IfOk, IsTrue, OnOk};
-ghost use Rattle.java_int.specs.JavaInt.{Fits};
 ghost use Rattle.line_text.specs.Bounds.{IsBounds};
 ghost use Rattle.ports.specs.Faults.{HasCause};
 ghost use Rattle.ports.specs.Growth.{IsTold, SameElsewhere};
@@ -15,26 +14,17 @@ ghost use Rattle.verdict.specs.Stops.{IsUnwritten};
 use crate::question::Question;
 use crate::stop::Stop;
 use action_orders::{Execution, Sequence};
-use java_int::fits;
 use line_text::Values;
 use line_text::outcome::Outcome;
-use ports::{Failed, FileSink, Files};
+use ports::{Failed, FileSink, Files, Memory};
 use program::Program;
 use sequence_text::write_sequence;
 use std::alloc::Global;
 use straight::laws::straight_is_justified;
 use straight::{StraightRun, run_straight};
 use straight_executions::laws::straight_forbids;
+use straight_trace::printed_within;
 use straight_sequence::committing_sequence;
-
-/// Whether all ints have this width.
-fn all_fit(ints: &Values, width: u32) -> bool
-    requires narrowest { 2 ≤ width }
-    requires widest { width ≤ 32 }
-    ensures { IsTrue result ↔ All (Fits width) ints.now }
-{
-    ints.as_slice().iter().all(|int| fits(*int, width))
-}
 
 /// Whether the outcome names main alone, with these values.
 fn names_main(outcome: &Outcome, printed: &Values) -> bool
@@ -86,12 +76,24 @@ fn sequence_of(alloc: Global, program: &Program) -> Result<Sequence, Stop>
     committing_sequence(alloc, program).map_err(|_| Stop::Memory)
 }
 
-/// Whether the ints of the run have the width, and main prints what the outcome says.
-fn shows(question: &Question, run: &StraightRun) -> bool
-    requires { IsBounds question.now.bounds }
-    ensures { IsTrue result ↔ ShowsOutcome question.now run.now }
+/// Whether the trace of main within the bounds prints what the outcome says.
+fn shows(
+    alloc: Global,
+    program: &Program,
+    question: &Question,
+    run: &StraightRun,
+) -> Result<bool, Stop>
+    requires straight { IsStraight program.now }
+    requires run { IsRunOf program.now run.now }
+    requires bounds { IsBounds question.now.bounds }
+    ensures ok { IfOk result (λ shown. IsTrue shown ↔ ShowsOutcome question.now run.now) }
+    ensures memory { IfErr result (λ stop. stop ≡ Stop.Memory) }
 {
-    all_fit(&run.ints, question.bounds.width) && names_main(&question.outcome, &run.printed)
+    match printed_within(alloc, program, run, &question.bounds) {
+        Ok(Some(printed)) => Ok(names_main(&question.outcome, &printed)),
+        Ok(None) => Ok(false),
+        Err(Memory) => Err(Stop::Memory),
+    }
 }
 
 /// Whether the outcome is allowed; then SEQ holds an execution that shows it, with its sequence.
@@ -114,7 +116,7 @@ pub(crate) fn judge<F: Files>(
     straight_is_justified();
     straight_forbids();
     let run = run_of(alloc, program)?;
-    if !shows(question, &run) {
+    if !shows(alloc, program, question, &run)? {
         return Ok(false);
     }
     let sequence = sequence_of(alloc, program)?;
