@@ -1,5 +1,5 @@
 -- From the run of a straight program to the answer.
-use Rattle.std.proofs.Common.{◌≡◌, ◌↔◌, ℕ, ℤ, Bool, false, List, Option, Some, None, IsTrue, All, subst, sym, ap, ◌∙◌, get_or, length, ◌<◌}
+use Rattle.std.proofs.Common.{◌≡◌, ◌↔◌, ℕ, ℤ, Bool, true, false, List, Option, Some, None, IsTrue, All, subst, sym, ap, ◌∙◌, get_or, length, ◌<◌}
 use Rattle.java_int.specs.JavaInt.{Fits}
 use Rattle.line_text.specs.declared.outcome.OutcomePart.{OutcomePart}
 use Rattle.ports.specs.Growth.{IsTold}
@@ -71,9 +71,17 @@ untrue e = cc
 -- what the trace tells of the printed values
 module _ (q : Question) (run : StraightRun) where
   pub shown_by : (values : List ℤ) (b : Bool) → TellsPrinted run q.bounds (Some values) → IsTrue b ↔ NamesMain q.outcome values → IsTrue b ↔ ShowsOutcome q run
-  shown_by values b (is, fit) names =
-      ((λ t. record { fit = fit; prints = subst (λ (xs : List ℤ). NamesMain q.outcome xs) is (names.0 t) }),
-      (λ s. names.1 (subst (λ (xs : List ℤ). NamesMain q.outcome xs) (sym is) s.prints)))
+  shown_by values b (is, fit) names = (
+    (λ t. record { fit = fit; prints = subst (λ (xs : List ℤ). NamesMain q.outcome xs) is (names.0 t) }),
+    (λ s. names.1 (subst (λ (xs : List ℤ). NamesMain q.outcome xs) (sym is) s.prints)),
+  )
 
   pub not_shown : TellsPrinted run q.bounds None → IsTrue false ↔ ShowsOutcome q run
   not_shown h = ((λ t. absurd (untrue t)), (λ s. absurd (h s.fit)))
+
+-- a truth value that is known, and what it tells
+pub not_told : {X : Type 0} (b : Bool) → b ≡ false → IsTrue b ↔ X → X → ⊥
+not_told b is tells x = untrue (subst (λ (c : Bool). IsTrue c) is (tells.1 x))
+
+pub told : {X : Type 0} (b : Bool) → b ≡ true → IsTrue b ↔ X → X
+told b is tells = tells.0 is

@@ -23,8 +23,8 @@ use std::alloc::Global;
 use straight::laws::straight_is_justified;
 use straight::{StraightRun, run_straight};
 use straight_executions::laws::straight_forbids;
-use straight_trace::printed_within;
 use straight_sequence::committing_sequence;
+use straight_trace::printed_within;
 
 /// Whether the outcome names main alone, with these values.
 fn names_main(outcome: &Outcome, printed: &Values) -> bool
@@ -116,7 +116,8 @@ pub(crate) fn judge<F: Files>(
     straight_is_justified();
     straight_forbids();
     let run = run_of(alloc, program)?;
-    if !shows(alloc, program, question, &run)? {
+    let shown = shows(alloc, program, question, &run)?;
+    if !shown {
         return Ok(false);
     }
     let sequence = sequence_of(alloc, program)?;
