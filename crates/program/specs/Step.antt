@@ -51,12 +51,13 @@ pushes n = record { event = None; ints = n ∷ []; backward = false }
 abbrev pub shows : Event → List ℤ → Effect
 shows event ints = record { event = Some event; ints = ints; backward = false }
 
--- the effect of a step that moves values on the stack
+-- the ints among some values
 abbrev pub ints_of : List JavaValue → List ℤ
 ints_of [] = []
 ints_of (Int n ∷ values) = n ∷ ints_of values
 ints_of (value ∷ values) = ints_of values
 
+-- the effect of a step that moves values on the stack
 abbrev pub moves_values : List JavaValue → Effect
 moves_values values = record { event = None; ints = ints_of values; backward = false }
 

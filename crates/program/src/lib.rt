@@ -3,17 +3,21 @@
 #![tactic(auto)]
 
 mod event;
+mod items;
 mod kind;
 mod method;
 mod name;
 mod operands;
 mod program;
 mod stack_type;
+mod value_type;
 
 pub use event::Event;
+pub use items::Items;
 pub use kind::Kind;
 pub use method::{Frame, Method, MethodId, Operand};
 pub use name::Name;
 pub use operands::Operands;
 pub use program::{Program, Variable};
 pub use stack_type::StackType;
+pub use value_type::{HeldMonitor, TypedLocal, TypedState, ValueType};

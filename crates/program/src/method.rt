@@ -1,6 +1,8 @@
 //! Reached methods: their frames, their instructions and what each instruction names.
 
+use crate::items::Items;
 use crate::operands::Operands;
+use crate::value_type::TypedState;
 use opcodes::Listing;
 
 /// A method, by the place of its class among the classes and its own place in the class.
@@ -51,11 +53,13 @@ pub enum Operand {
     Nothing,
 }
 
-/// A reached method: its frame, its reached instructions by place, and what each of them names, in the same order.
+/// A reached method: its frame, its reached instructions by place, and in the same order what each of them names and what is
+/// known of the frame before it. A method that was not typed has no typed states.
 #[derive(Debug, Drop)]
 pub struct Method {
     pub id: MethodId,
     pub frame: Frame,
     pub listing: Listing,
     pub operands: Operands,
+    pub typed: Items<TypedState>,
 }

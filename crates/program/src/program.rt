@@ -160,7 +160,7 @@ impl Program {
 #[cfg(test)]
 mod tests {
     use super::*;
-    use crate::{Frame, Operands};
+    use crate::{Frame, Items, Operands};
     use opcodes::Listing;
     use std::test::Fail;
 
@@ -194,6 +194,7 @@ mod tests {
             },
             listing: Listing::new(rt.alloc()),
             operands: Operands::new(rt.alloc()),
+            typed: Items::new(rt.alloc()),
         })?;
         assert_eq!(rt; program.threads(), 1);
         assert_eq!(rt; program.entry(0), MAIN);
