@@ -5,7 +5,7 @@ use Rattle.class_format.specs.declared.record.ClassRecord.{ClassRecord}
 use Rattle.class_format.specs.declared.record.Member.{Member}
 use Rattle.class_profile.proofs.Pairs.{pairs_of_images}
 use Rattle.class_profile.proofs.SameTexts.{not_true, not_both}
-use Rattle.class_profile.specs.Members.{member_name, member_descriptor, IsSpelled}
+use Rattle.class_names.specs.Members.{member_name, member_descriptor, IsSpelled}
 use Rattle.class_profile.specs.NameForm.{int_fields, HasDistinctFields, HasDistinctMethods}
 use Rattle.class_profile.specs.Texts.{number_at, NumbersTexts}
 

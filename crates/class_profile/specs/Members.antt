@@ -1,51 +1,15 @@
 -- What is asked of the fields and methods of a class, and which method is main (docs/PROFILE.md, "Classes of the profile").
-use Rattle.std.specs.Prelude.{◌≡◌, ◌≢◌, ◌&&◌, ◌||◌, ℕ, Bool, true, false, List, All, Any, Some, codes, slice_get}
-use Rattle.class_format.specs.ClassText.{is_code}
+use Rattle.std.specs.Prelude.{◌≡◌, ◌≢◌, ℕ, true, false, List, All, Some, codes, slice_get}
 use Rattle.class_format.specs.declared.record.Attribute.{Attribute, out-Attribute}
 use Rattle.class_format.specs.declared.record.Attribute.TheOpen.{Attribute-F, Code, Other}
 use Rattle.class_format.specs.declared.record.ClassRecord.{ClassRecord}
 use Rattle.class_format.specs.declared.record.CodeBody.{CodeBody}
 use Rattle.class_format.specs.declared.record.Member.{Member}
 use Rattle.class_format.specs.declared.record.PoolEntry.{PoolEntry}
-use Rattle.class_names.specs.Names.{has_flag, same_text, text_of}
-
--- ---- Flags, names and attributes
-
--- the flags of static, final and synchronized members (JVMS 4.5, 4.6)
-abbrev pub static_flag : ℕ
-static_flag = 0x0008
-
-abbrev pub final_flag : ℕ
-final_flag = 0x0010
-
-abbrev pub synchronized_flag : ℕ
-synchronized_flag = 0x0020
-
--- the name of a member, and its descriptor
-abbrev pub member_name : List PoolEntry → Member → List ℕ
-member_name pool m = text_of pool m.name
-
-abbrev pub member_descriptor : List PoolEntry → Member → List ℕ
-member_descriptor pool m = text_of pool m.descriptor
-
--- the member has this name and this descriptor
-pub record IsSpelled (pool : List PoolEntry) (name descriptor : List ℕ) (m : Member) : Type 0 where
-  pub name_is : member_name pool m ≡ name
-  pub descriptor_is : member_descriptor pool m ≡ descriptor
-
--- a Code attribute among its attributes: abstract and native methods have none
-abbrev pub HasCode : Member → Type 0
-HasCode m = Any (λ a. is_code a ≡ true) m.attributes
+use Rattle.class_names.specs.Members.{static_flag, final_flag, synchronized_flag, member_name, is_int, HasCode, IsSpelled}
+use Rattle.class_names.specs.Names.{has_flag, text_of}
 
 -- ---- Fields
-
--- an int or a boolean (JVMS 4.3.2)
-abbrev pub is_int : List PoolEntry → Member → Bool
-is_int pool f = same_text (member_descriptor pool f) (codes "I") || same_text (member_descriptor pool f) (codes "Z")
-
--- a static int or boolean
-abbrev pub is_int_field : List PoolEntry → Member → Bool
-is_int_field pool f = has_flag f.flags static_flag && is_int pool f
 
 -- the index of an attribute's name
 abbrev pub name_index_in : Attribute-F Attribute CodeBody → ℕ

@@ -4,7 +4,7 @@ use Rattle.std.specs.List.{starts_with}
 use Rattle.class_format.specs.declared.record.ClassRecord.{ClassRecord}
 use Rattle.class_format.specs.declared.record.Member.{Member}
 use Rattle.class_names.specs.Names.{name_of}
-use Rattle.class_profile.specs.Members.{member_name, member_descriptor, is_int_field, IsSpelled}
+use Rattle.class_names.specs.Members.{member_name, member_descriptor, is_int_field, IsSpelled}
 use Rattle.program.specs.Names.{IsName}
 
 -- the static fields of type int or boolean have names that can be written

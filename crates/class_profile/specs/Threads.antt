@@ -6,24 +6,8 @@ use Rattle.class_format.specs.declared.record.ClassRecord.{ClassRecord}
 use Rattle.class_format.specs.declared.record.CodeBody.{CodeBody}
 use Rattle.class_format.specs.declared.record.Member.{Member}
 use Rattle.class_format.specs.declared.record.PoolEntry.{PoolEntry}
-use Rattle.class_names.specs.Names.{has_flag, same_text, class_name_of, Reference, method_at, is_reference}
-use Rattle.class_profile.specs.Members.{static_flag, synchronized_flag, member_name, IsSpelled, HasCode}
-
--- ---- Classes by their superclass
-
-abbrev pub thread_name : List ℕ
-thread_name = codes "java/lang/Thread"
-
-abbrev pub object_name : List ℕ
-object_name = codes "java/lang/Object"
-
--- the name of the superclass
-abbrev pub parent_name : ClassRecord → List ℕ
-parent_name class = class_name_of class.pool class.parent
-
--- a thread class extends java/lang/Thread
-abbrev pub IsThreadClass : ClassRecord → Type 0
-IsThreadClass class = parent_name class ≡ thread_name
+use Rattle.class_names.specs.Names.{has_flag, same_text, Reference, method_at, is_reference}
+use Rattle.class_names.specs.Members.{static_flag, synchronized_flag, interface_flag, abstract_flag, thread_name, object_name, parent_name, member_name, IsSpelled, IsThreadClass, HasCode}
 
 -- ---- Constructors
 
@@ -69,13 +53,6 @@ abbrev pub HasPlainConstructor : ClassRecord → Type 0
 HasPlainConstructor class = IsThreadClass class → HasOneConstructor class
 
 -- ---- Threads
-
--- the flags of interfaces and of abstract classes (JVMS 4.1)
-abbrev pub interface_flag : ℕ
-interface_flag = 0x0200
-
-abbrev pub abstract_flag : ℕ
-abstract_flag = 0x0400
 
 -- run()V, neither static nor synchronized, with code
 pub record IsRun (pool : List PoolEntry) (m : Member) : Type 0 where

@@ -3,9 +3,8 @@
 ghost use Rattle.std.specs.Prelude.{◌≡◌, ◌↔◌, ◌≤◌, ◌<◌, ◌^◌, IsTrue, MatchOption, length};
 ghost use Rattle.class_profile.specs.Members.{IsMain, IsOneMain, HasOneMain};
 
-use crate::members::{has_code, is_spelled};
 use class_format::{ClassRecord, Member, PoolEntries};
-use class_names::{STATIC, SYNCHRONIZED, has_flag};
+use class_names::{STATIC, SYNCHRONIZED, has_code, has_flag, is_spelled};
 
 /// Where a method stands: the place of its class, and its place among the class's methods, both from 0.
 #[derive(Clone, Copy, Debug, PartialEq, Eq)]

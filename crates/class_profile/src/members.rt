@@ -1,51 +1,11 @@
 //! What is asked of fields and methods.
 
 ghost use Rattle.std.specs.Prelude.{◌≡◌, ◌≢◌, ◌↔◌, All, Any, IsTrue, codes};
-ghost use Rattle.class_profile.specs.Members.{member_name, member_descriptor, attribute_name, is_int, is_int_field, IsSpelled, HasCode, IsPlainVariable, HasPlainType, HasNoClassInit, HasStaticFields, HasPlainTypes};
+ghost use Rattle.class_names.specs.Members.{member_name, is_int};
+ghost use Rattle.class_profile.specs.Members.{attribute_name, IsPlainVariable, HasPlainType, HasNoClassInit, HasStaticFields, HasPlainTypes};
 
 use class_format::{Attribute, ClassRecord, Member, PoolEntries};
-use class_names::{FINAL, STATIC, has_flag, same_text, text_of};
-
-/// The name of a member.
-pub fn member_name<'a>(pool: &'a PoolEntries, member: &Member) -> &'a [u8]
-    ensures { result.now ≡ member_name pool.now member.now }
-{
-    text_of(pool, member.name)
-}
-
-/// Whether a member has this name and this descriptor.
-pub fn is_spelled(pool: &PoolEntries, name: &[u8], descriptor: &[u8], member: &Member) -> bool
-    ensures { IsTrue result ↔ IsSpelled pool.now name.now descriptor.now member.now }
-{
-    same_text(text_of(pool, member.name), name)
-        && same_text(text_of(pool, member.descriptor), descriptor)
-}
-
-/// Whether a method has code.
-pub fn has_code(method: &Member) -> bool
-    ensures { IsTrue result ↔ HasCode method.now }
-{
-    method
-        .attributes
-        .as_slice()
-        .iter()
-        .any(|attribute| matches!(attribute, Attribute::Code(_)))
-}
-
-/// Whether a field's type is int or boolean.
-fn is_int(pool: &PoolEntries, field: &Member) -> bool
-    ensures { result ≡ is_int pool.now field.now }
-{
-    let descriptor = text_of(pool, field.descriptor);
-    same_text(descriptor, b"I") || same_text(descriptor, b"Z")
-}
-
-/// Whether a field is a static int or boolean.
-pub fn is_int_field(pool: &PoolEntries, field: &Member) -> bool
-    ensures { result ≡ is_int_field pool.now field.now }
-{
-    has_flag(field.flags, STATIC) && is_int(pool, field)
-}
+use class_names::{FINAL, STATIC, has_flag, is_int, member_name, same_text, text_of};
 
 /// Whether an attribute has this name.
 fn is_named(pool: &PoolEntries, name: &[u8], attribute: &Attribute) -> bool

@@ -3,17 +3,16 @@
 ghost use Rattle.std.specs.Prelude.{◌≡◌, ◌↔◌, ◌++◌, [], ◌∷◌, Err, IfOk, OnOk, OnErr, IsTrue, Some, map};
 ghost use Rattle.std.specs.List.{position_or_len};
 ghost use Rattle.class_names.specs.Names.{same_text, text_in};
-ghost use Rattle.class_profile.specs.Members.{is_int_field};
+ghost use Rattle.class_names.specs.Members.{is_int_field};
 ghost use Rattle.class_profile.specs.NameForm.{int_fields, HasWritableFields, HasDistinctFields, HasDistinctMethods, HasPlainNames};
 ghost use Rattle.class_profile.specs.Texts.{with_text, number_at, NumbersTexts};
 ghost use Rattle.program.specs.Names.{IsNameByte, IsName};
 
 use crate::distinct::are_distinct;
-use crate::members::{is_int_field, member_name};
 use crate::refusal::ProfileRefusal;
 use crate::text_set::TextSet;
 use class_format::{ClassRecord, PoolEntries, PoolEntry};
-use class_names::name_of;
+use class_names::{is_int_field, member_name, name_of};
 use std::alloc::Global;
 
 /// The most bytes of a name that can be written.

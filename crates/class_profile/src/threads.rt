@@ -2,14 +2,13 @@
 
 ghost use Rattle.std.specs.Prelude.{◌≡◌, ◌↔◌, All, Any, IsTrue, codes, count_by};
 ghost use Rattle.class_names.specs.Names.{method_at};
-ghost use Rattle.class_profile.specs.Members.{IsSpelled};
-ghost use Rattle.class_profile.specs.Threads.{is_constructor, is_thread_constructor, IsThreadInit, IsThreadInitCode, IsPlainConstructor, HasOneConstructor, HasPlainConstructor, IsThreadClass, IsRun, IsRunnable, HasPlainKind, parent_name, object_name};
+ghost use Rattle.class_names.specs.Members.{IsSpelled, IsThreadClass, parent_name, object_name};
+ghost use Rattle.class_profile.specs.Threads.{is_constructor, is_thread_constructor, IsThreadInit, IsThreadInitCode, IsPlainConstructor, HasOneConstructor, HasPlainConstructor, IsRun, IsRunnable, HasPlainKind};
 
-use crate::members::{has_code, is_spelled, member_name};
 use class_format::{Attribute, ClassRecord, Member, PoolEntries, PoolEntry, entry_at};
 use class_names::{
-    ABSTRACT, Expected, INTERFACE, Reference, STATIC, SYNCHRONIZED, class_name_of, has_flag,
-    is_reference, same_text,
+    ABSTRACT, Expected, INTERFACE, Reference, STATIC, SYNCHRONIZED, extends, has_code, has_flag,
+    is_reference, is_spelled, is_thread_class, member_name, same_text,
 };
 
 /// The codes of the three instructions of a plain constructor (JVMS 6).
@@ -18,20 +17,6 @@ const ALOAD_0: u8 = 0x2a;
 const INVOKESPECIAL: u8 = 0xb7;
 
 const RETURN: u8 = 0xb1;
-
-/// Whether the class's superclass has this name.
-fn extends(class: &ClassRecord, name: &[u8]) -> bool
-    ensures { IsTrue result ↔ (parent_name class.now ≡ name.now) }
-{
-    same_text(class_name_of(&class.pool, class.parent), name)
-}
-
-/// Whether a class is a thread class.
-pub fn is_thread_class(class: &ClassRecord) -> bool
-    ensures { IsTrue result ↔ IsThreadClass class.now }
-{
-    extends(class, b"java/lang/Thread")
-}
 
 /// Whether the entry with this number is java/lang/Thread.<init>()V.
 fn is_thread_constructor(pool: &PoolEntries, index: u16) -> bool

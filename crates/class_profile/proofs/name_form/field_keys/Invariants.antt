@@ -1,6 +1,6 @@
 -- The keys so far are those of the int fields so far.
 use Rattle.std.proofs.Common.{◌≡◌, map, filter, take}
-use Rattle.class_profile.specs.Members.{is_int_field}
+use Rattle.class_names.specs.Members.{is_int_field}
 use Rattle.class_profile.specs.Texts.{number_at}
 use Rattle.class_profile.proofs.name_form.field_keys.Given as goal
 
