@@ -1,2 +1,5 @@
+pub mod Misnamings
+pub mod Places
 pub mod Resolution
 pub mod Signatures
+pub mod Tables

@@ -1,19 +1,20 @@
 -- What an instruction names by the constant pool of its class, among the classes (JVMS 5.4.3; docs/PROFILE.md, "Names").
 use Rattle.std.specs.Prelude.{◌&&◌, ◌||◌, ◌++◌, ℕ, pos, negsuc, Bool, true, false, not, List, Option, Some, None, codes, length, nat_eq, nat_lt, nat_le, position, slice_get, if◌then◌else◌}
 use Rattle.std.specs.Int.{w32, cast_signed}
-use Rattle.std.specs.List.{list_all, list_any}
+use Rattle.std.specs.List.{list_all}
 use Rattle.std.specs.Option.{is_some}
 use Rattle.opcodes.specs.declared.instruction.Instr.{Instr}
 use Rattle.opcodes.specs.declared.instruction.Instr.TheVariants.{IconstM1, Iconst0, Iconst1, Iconst2, Iconst3, Iconst4, Iconst5, Bipush, Sipush, Ldc, LdcW, Getstatic, Putstatic, Invokevirtual, Invokespecial, Invokestatic, New}
-use Rattle.class_format.specs.ClassText.{is_code}
 use Rattle.class_format.specs.Pool.{entry_at}
 use Rattle.class_format.specs.declared.record.ClassRecord.{ClassRecord}
 use Rattle.class_format.specs.declared.record.Member.{Member}
 use Rattle.class_format.specs.declared.record.PoolEntry.{PoolEntry}
 use Rattle.class_format.specs.declared.record.PoolEntry.TheVariants as entry
-use Rattle.class_names.specs.Members.{static_flag, final_flag, thread_name, parent_name, member_name, member_descriptor}
+use Rattle.class_names.specs.Members.{final_flag, thread_name, parent_name, body_of}
 use Rattle.class_names.specs.Names.{has_flag, same_text, text_of, Reference, field_at, method_at, is_system_out, is_println, name_of}
-use Rattle.resolution.specs.Signatures.{Signature, signature_of}
+use Rattle.resolution.specs.Places.{is_static_named}
+use Rattle.resolution.specs.Signatures.{signature_of}
+use Rattle.resolution.specs.declared.signature.Signature.{Signature}
 use Rattle.resolution.specs.declared.target.Target.{Target}
 use Rattle.resolution.specs.declared.target.Target.TheVariants as target
 
@@ -56,10 +57,6 @@ method_spelling r = r.class ++ codes "." ++ r.name ++ r.descriptor
 
 -- ---- Fields
 
--- a static member with the name and the descriptor of the reference
-abbrev pub is_static_member : List PoolEntry → Reference → Member → Bool
-is_static_member pool r m = has_flag m.flags static_flag && same_text r.name (member_name pool m) && same_text r.descriptor (member_descriptor pool m)
-
 -- the field at a place of a class
 abbrev pub field_resolved : ℕ → ℕ → Option Member → Reference → Resolved
 field_resolved class_at field_at (Some f) r = if has_flag f.flags final_flag then Final else Names (target.Field class_at field_at)
@@ -71,7 +68,7 @@ own_field class_at class r None = Unknown (Some (field_spelling r))
 
 -- a field of the class at a place
 abbrev pub field_of_class : ℕ → Option ClassRecord → Reference → Resolved
-field_of_class place (Some class) r = own_field place class r (position (is_static_member class.pool r) class.fields)
+field_of_class place (Some class) r = own_field place class r (position (is_static_named class.pool r.name r.descriptor) class.fields)
 field_of_class place None r = Unknown (Some (field_spelling r))
 
 -- a field of a class that is not listed: only System.out may be read
@@ -91,7 +88,7 @@ field_named classes reads None = Unknown None
 
 -- a method with code that takes ints and returns one or nothing
 abbrev pub is_callable : Member → Option Signature → Bool
-is_callable m (Some signature) = list_any is_code m.attributes
+is_callable m (Some signature) = is_some (body_of m)
 is_callable m None = false
 
 abbrev pub method_resolved : List PoolEntry → ℕ → ℕ → Option Member → Reference → Resolved
@@ -104,7 +101,7 @@ own_method class_at class r (Some place) = method_resolved class.pool class_at p
 own_method class_at class r None = Unknown (Some (method_spelling r))
 
 abbrev pub method_of_class : ℕ → Option ClassRecord → Reference → Resolved
-method_of_class place (Some class) r = own_method place class r (position (is_static_member class.pool r) class.methods)
+method_of_class place (Some class) r = own_method place class r (position (is_static_named class.pool r.name r.descriptor) class.methods)
 method_of_class place None r = Unknown (Some (method_spelling r))
 
 abbrev pub method_of : List ClassRecord → Reference → Option ℕ → Resolved

@@ -1,11 +1,7 @@
 -- Descriptors of methods that take ints and booleans, and return one of them or nothing (JVMS 4.3.3).
 use Rattle.std.specs.Prelude.{◌+◌, ◌||◌, ℕ, Bool, true, false, List, [], ◌∷◌, Option, Some, None, nat_eq, if◌then◌else◌}
 use Rattle.std.specs.Option.{option_map}
-
--- how many ints a method takes, and whether it returns one
-pub record Signature : Type 0 where
-  pub parameters : ℕ
-  pub result : Bool
+use Rattle.resolution.specs.declared.signature.Signature.{Signature}
 
 -- the letters I and Z
 abbrev pub is_int_letter : ℕ → Bool

@@ -1,0 +1,4 @@
+mod SameTexts
+mod Adding
+mod Positions
+mod Declared

@@ -1,0 +1,8 @@
+-- The bytes so far may stand in a name.
+use Rattle.std.proofs.Common.{◌≡◌, drop}
+use Rattle.std.specs.List.{list_all}
+use Rattle.resolution.specs.Resolution.{is_name_byte}
+use Rattle.resolution.proofs.resolver.are_name_bytes.Given as goal
+
+abbrev pub invariant-loop-byte : goal.invariant-loop-byte
+invariant-loop-byte l = list_all is_name_byte (drop l.byte-index l.bytes) ≡ list_all is_name_byte l.bytes
