@@ -1,0 +1,4 @@
+pub mod MethodPlaces
+pub mod Pieces
+pub mod PrintedBytes
+pub mod ThreadTexts

@@ -1,0 +1,6 @@
+pub mod PrintableText
+pub mod NameTexts
+pub mod InstructionNames
+pub mod Instructions
+pub mod ListingText
+pub mod Pieces

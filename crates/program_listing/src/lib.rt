@@ -1,0 +1,16 @@
+//! The listing of a program: its variables, its monitors, its threads, and the instructions that it reaches
+//! (docs/TEXTS.md, "Listings").
+#![tactic(auto)]
+
+mod instruction_names;
+mod listing;
+mod method_names;
+mod methods;
+mod operands;
+mod piece;
+mod printable;
+#[cfg(test)]
+mod tests;
+
+pub use listing::put_listing;
+pub use printable::put_detail;
