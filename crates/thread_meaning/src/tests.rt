@@ -7,7 +7,7 @@ use crate::code::method_of;
 use crate::{Trace, TraceEnd, trace};
 use line_text::bounds::Bounds;
 use opcodes::{Instr, Listing};
-use program::{Event, Frame, Method, MethodId, Operand, Operands, Program};
+use program::{Event, Frame, Items, Method, MethodId, Operand, Operands, Program};
 use std::alloc::Global;
 use std::process::Abort;
 use std::test::Fail;
@@ -63,6 +63,7 @@ fn method(
         frame,
         listing,
         operands,
+        typed: Items::new(alloc),
     })
 }
 
@@ -107,14 +108,30 @@ fn name(end: &TraceEnd) -> &'static str {
     }
 }
 
-/// The name of a refusal, or nothing for a trace with these events.
+/// Whether a trace printed what these events print.
+fn prints(trace: &Trace, events: &[Event]) -> bool {
+    let mut count = 0usize;
+    for event in events {
+        if let Event::Print { value } = event {
+            if trace.printed.get(count) != Some(value) {
+                return false;
+            }
+            count = count.saturating_add(1);
+        }
+    }
+    count == trace.printed.len()
+}
+
+/// The name of a refusal, or whether a trace has these events and printed what they print.
 fn outcome(found: &Result<Trace, TraceEnd>, events: &[Event]) -> &'static str {
     match found {
         Ok(trace) => {
-            if trace.events.as_slice() == events {
-                "ok"
-            } else {
+            if trace.events.as_slice() != events {
                 "other events"
+            } else if !prints(trace, events) {
+                "other prints"
+            } else {
+                "ok"
             }
         }
         Err(end) => name(end),
@@ -209,10 +226,20 @@ fn widths(rt: HostRuntime) -> Result<(), Fail> {
         (-129, 8, "width"),
     ];
     for (value, width, want) in rows {
-        let program = alone(&rt, rt.alloc(), &[OUT, push(value), PRINT, RETURN])?;
-        let events = [Event::First, Event::Print { value }, Event::Last];
+        let program = alone(
+            &rt,
+            rt.alloc(),
+            &[push(value), WRITE_X, OUT, READ_X, PRINT, RETURN],
+        )?;
+        let events = [
+            Event::First,
+            Event::Write { variable: 0, value },
+            Event::Read { variable: 0, value },
+            Event::Print { value },
+            Event::Last,
+        ];
         let bounds = Bounds { jumps: 0, width };
-        let result = trace(rt.alloc(), &program, 0, &[], &bounds);
+        let result = trace(rt.alloc(), &program, 0, &[value], &bounds);
         assert_eq!(rt; outcome(&result, &events), want);
     }
     Ok(())

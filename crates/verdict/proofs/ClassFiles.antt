@@ -3,7 +3,7 @@ use Rattle.std.proofs.Common.{◌≡◌, ℕ, List, [], ◌∷◌, Result, Ok, E
 use Rattle.class_format.specs.ClassText.{ClassText}
 use Rattle.class_format.specs.Laws.{OneRecord}
 use Rattle.class_format.specs.declared.record.ClassRecord.{ClassRecord}
-use Rattle.linking.specs.StraightClass.{IsOneStraightClass, IsStraightClass}
+use Rattle.straight_linking.specs.StraightClass.{IsOneStraightClass, IsStraightClass}
 use Rattle.verdict.specs.ClassFile.{IsStraightFile}
 use Rattle.verdict.specs.Stops.{IsUnlinked, IsUnlinkedClass}
 use Rattle.verdict.specs.declared.stop.Stop.{Stop}

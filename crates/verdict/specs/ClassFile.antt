@@ -2,8 +2,8 @@
 use Rattle.std.specs.Prelude.{ℕ, ◌≤◌, List, [], ◌∷◌, length}
 use Rattle.class_format.specs.ClassText.{ClassText}
 use Rattle.class_format.specs.declared.record.ClassRecord.{ClassRecord}
-use Rattle.linking.specs.Linking.{IsProgramOf}
-use Rattle.linking.specs.StraightClass.{IsStraightClass}
+use Rattle.straight_linking.specs.Linking.{IsProgramOf}
+use Rattle.straight_linking.specs.StraightClass.{IsStraightClass}
 use Rattle.program.specs.Program.{Prog}
 
 -- the greatest number of bytes of a class file

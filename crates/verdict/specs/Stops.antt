@@ -6,7 +6,7 @@ use Rattle.verdict.specs.declared.stop.Stop.TheVariants.{NotBuilt, ReadFault, Wr
 use Rattle.verdict.specs.Question.{AsksNothing}
 use Rattle.class_format.specs.ClassText.{ClassText}
 use Rattle.class_format.specs.declared.record.ClassRecord.{ClassRecord}
-use Rattle.linking.specs.StraightClass.{IsStraightClass}
+use Rattle.straight_linking.specs.StraightClass.{IsStraightClass}
 use Rattle.verdict.specs.ClassFile.{IsStraightFile}
 
 -- the words were judged

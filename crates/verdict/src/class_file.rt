@@ -3,15 +3,15 @@
 ghost use Rattle.std.specs.Prelude.{◌≡◌, ◌≤◌, [], ◌∷◌, length, IfErr, IfOk, OnOk};
 ghost use Rattle.class_format.specs.ClassText.{ClassText, IsValid};
 ghost use Rattle.class_format.specs.declared.record.ClassRecord.{ClassRecord};
-ghost use Rattle.linking.specs.Linking.{IsProgramOf};
-ghost use Rattle.linking.specs.StraightClass.{IsStraightClass};
+ghost use Rattle.straight_linking.specs.Linking.{IsProgramOf};
+ghost use Rattle.straight_linking.specs.StraightClass.{IsStraightClass};
 ghost use Rattle.program.specs.Straight.{IsStraight};
 ghost use Rattle.verdict.specs.ClassFile.{IsProgramFile, IsStraightFile, limit};
 ghost use Rattle.verdict.specs.Stops.{IsUnlinked, HasNoText, IsUnlinkedClass};
 
 use crate::stop::Stop;
 use class_format::{ClassRecord, FormatRefusal, one_record, read_class};
-use linking::{ClassList, ProgramRefusal, link};
+use straight_linking::{ClassList, ProgramRefusal, link};
 use program::Program;
 use std::alloc::Global;
 
