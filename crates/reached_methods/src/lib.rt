@@ -1,8 +1,27 @@
 //! The methods that a program reaches, and what is wrong with their instructions (docs/PROFILE.md, "Reached methods").
 #![tactic(auto)]
 
+mod adding;
+mod code;
+mod cycles;
+mod exploring;
+mod fault;
+mod laws;
+mod loops;
 mod method;
+mod method_set;
+mod naming;
+mod places;
+mod reaching;
+mod reading;
 mod refusal;
+mod runs;
+mod survey;
 
+pub use laws::{no_first_fault, one_first_fault, one_list};
 pub use method::ReachedMethod;
-pub use refusal::{CodeKind, Detail};
+pub use reaching::reach;
+pub use refusal::{CodeKind, CodeRefusal, Detail};
+
+#[cfg(test)]
+mod tests;

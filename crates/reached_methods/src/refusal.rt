@@ -1,6 +1,7 @@
 //! What can be wrong with the instructions of reached methods.
 
-use program::Name;
+use program::{MethodId, Name};
+use thiserror::Error;
 
 /// What can be wrong with an instruction, in the order in which it counts at one place (docs/PROFILE.md, "Refusals of
 /// instructions").
@@ -32,4 +33,20 @@ pub enum Detail {
     Number(u8),
     /// A class, `C.n` for a field, `C.n` and the descriptor for a method.
     Name(Name),
+}
+
+/// Why the code of the reached methods is not of the profile.
+#[derive(Debug, Drop, Error)]
+pub enum CodeRefusal {
+    /// The first fault of all reached methods: by method, by place in its code, and by kind.
+    #[error("the instruction at {pc} of a reached method is not of the profile")]
+    Refused {
+        kind: CodeKind,
+        method: MethodId,
+        pc: u32,
+        detail: Detail,
+    },
+    /// There is not enough memory.
+    #[error("not enough memory")]
+    Memory,
 }

@@ -1,0 +1,583 @@
+//! The programs that small classes make, and why they make none.
+
+ghost use Rattle.std.specs.Prelude.{◌≤◌, IfOk, length};
+ghost use Rattle.class_format.specs.ClassText.{IsValid};
+
+mod data;
+
+use crate::{ClassList, ProgramRefusal, link};
+use class_format::{ClassRecord, read_class, valid_has_text};
+use class_profile::ClassKind;
+use data::{Part, class_bytes};
+use program::{MethodId, Operand, Program};
+use reached_methods::CodeKind;
+use std::alloc::Global;
+use std::test::Fail;
+use typing::TypeKind;
+use untyped_program::LimitKind;
+
+/// A code that returns at once.
+const RETURN: &[u8] = &[0xb1];
+
+/// The code of a plain constructor of a thread class.
+const INIT: &[u8] = &[0x2a, 0xb7, 0, 18, 0xb1];
+
+const MAIN: MethodId = MethodId {
+    class: 0,
+    method: 0,
+};
+
+const A: MethodId = MethodId {
+    class: 0,
+    method: 1,
+};
+
+const B: MethodId = MethodId {
+    class: 0,
+    method: 2,
+};
+
+const C: MethodId = MethodId {
+    class: 1,
+    method: 0,
+};
+
+const D: MethodId = MethodId {
+    class: 1,
+    method: 1,
+};
+
+const RUN: MethodId = MethodId {
+    class: 2,
+    method: 1,
+};
+
+/// A method of a program: its monitor, and what its instructions name.
+struct Known {
+    method: MethodId,
+    monitor: Option<u32>,
+    operands: &'static [Operand],
+}
+
+enum Want {
+    /// The methods that the threads run, which variables are volatile, the number of the monitors, and the methods.
+    Linked {
+        threads: &'static [MethodId],
+        volatile: &'static [bool],
+        monitors: usize,
+        methods: &'static [Known],
+    },
+    Class(ClassKind, Option<u32>),
+    Code(CodeKind, MethodId, u32),
+    Typing(TypeKind, MethodId, u32),
+    Limit(LimitKind),
+}
+
+/// The flags of M.a, the codes of M.main, M.a, M.b, N.a, N.b, T.<init> and T.run, and what comes of them.
+struct Row {
+    flags: u8,
+    codes: [&'static [u8]; 7],
+    want: Want,
+}
+
+const ROWS: [Row; 20] = [
+    // a thread is made, started and waited for; it reads a volatile variable
+    Row {
+        flags: 9,
+        codes: [
+            &[
+                0xbb, 0, 6, 0x59, 0xb7, 0, 19, 0x59, 0xb6, 0, 22, 0xb6, 0, 25, 0xb1,
+            ],
+            RETURN,
+            RETURN,
+            RETURN,
+            RETURN,
+            INIT,
+            &[0xb2, 0, 29, 0x57, 0xb1],
+        ],
+        want: Want::Linked {
+            threads: &[MAIN, RUN],
+            volatile: &[true],
+            monitors: 0,
+            methods: &[
+                Known {
+                    method: MAIN,
+                    monitor: None,
+                    operands: &[
+                        Operand::Make(1),
+                        Operand::Nothing,
+                        Operand::Make(1),
+                        Operand::Nothing,
+                        Operand::Start(1),
+                        Operand::Join(1),
+                        Operand::Nothing,
+                    ],
+                },
+                Known {
+                    method: RUN,
+                    monitor: None,
+                    operands: &[Operand::Variable(0), Operand::Nothing, Operand::Nothing],
+                },
+            ],
+        },
+    },
+    // a monitor is entered and left, and a synchronized method called, which prints y
+    Row {
+        flags: 0x29,
+        codes: [
+            &[0x12, 2, 0x59, 0xc2, 0xc3, 0xb8, 0, 47, 0xb1],
+            &[0xb2, 0, 38, 0xb2, 0, 32, 0xb6, 0, 44, 0xb1],
+            RETURN,
+            RETURN,
+            RETURN,
+            INIT,
+            RETURN,
+        ],
+        want: Want::Linked {
+            threads: &[MAIN],
+            volatile: &[false],
+            monitors: 1,
+            methods: &[
+                Known {
+                    method: MAIN,
+                    monitor: None,
+                    operands: &[
+                        Operand::Monitor(0),
+                        Operand::Nothing,
+                        Operand::Monitor(0),
+                        Operand::Monitor(0),
+                        Operand::Method(A),
+                        Operand::Nothing,
+                    ],
+                },
+                Known {
+                    method: A,
+                    monitor: Some(0),
+                    operands: &[
+                        Operand::Out,
+                        Operand::Variable(0),
+                        Operand::Print,
+                        Operand::Nothing,
+                    ],
+                },
+            ],
+        },
+    },
+    // an unreached method may be anything
+    Row {
+        flags: 9,
+        codes: [
+            &[8, 0xb3, 0, 29, 0xb1],
+            &[0x6c],
+            RETURN,
+            RETURN,
+            RETURN,
+            INIT,
+            &[0x57],
+        ],
+        want: Want::Linked {
+            threads: &[MAIN],
+            volatile: &[true],
+            monitors: 0,
+            methods: &[Known {
+                method: MAIN,
+                monitor: None,
+                operands: &[Operand::Constant(5), Operand::Variable(0), Operand::Nothing],
+            }],
+        },
+    },
+    // the constructor of T does more than it may
+    Row {
+        flags: 9,
+        codes: [RETURN, RETURN, RETURN, RETURN, RETURN, RETURN, RETURN],
+        want: Want::Class(ClassKind::Constructor, Some(2)),
+    },
+    // the same, and an unknown number in main
+    Row {
+        flags: 9,
+        codes: [&[0x6c], RETURN, RETURN, RETURN, RETURN, RETURN, RETURN],
+        want: Want::Class(ClassKind::Constructor, Some(2)),
+    },
+    // an unknown number in main
+    Row {
+        flags: 9,
+        codes: [&[0, 0x6c], RETURN, RETURN, RETURN, RETURN, INIT, RETURN],
+        want: Want::Code(CodeKind::Opcode, MAIN, 1),
+    },
+    // main falls out of its code
+    Row {
+        flags: 9,
+        codes: [&[0], RETURN, RETURN, RETURN, RETURN, INIT, RETURN],
+        want: Want::Code(CodeKind::JumpTarget, MAIN, 0),
+    },
+    // main can't be typed, and N.a has an unknown number
+    Row {
+        flags: 9,
+        codes: [
+            &[0x57, 0xb8, 0, 48, 0xb1],
+            RETURN,
+            RETURN,
+            &[0x6c],
+            RETURN,
+            INIT,
+            RETURN,
+        ],
+        want: Want::Code(CodeKind::Opcode, C, 0),
+    },
+    // nothing is on the stack
+    Row {
+        flags: 9,
+        codes: [
+            &[0, 0x57, 0xb1],
+            RETURN,
+            RETURN,
+            RETURN,
+            RETURN,
+            INIT,
+            RETURN,
+        ],
+        want: Want::Typing(TypeKind::TypeMisfit, MAIN, 1),
+    },
+    // a stack of three
+    Row {
+        flags: 9,
+        codes: [
+            &[3, 3, 3, 0xb1],
+            RETURN,
+            RETURN,
+            RETURN,
+            RETURN,
+            INIT,
+            RETURN,
+        ],
+        want: Want::Typing(TypeKind::StackDepth, MAIN, 2),
+    },
+    // an int is locked
+    Row {
+        flags: 9,
+        codes: [
+            &[3, 0xc2, 0xb1],
+            RETURN,
+            RETURN,
+            RETURN,
+            RETURN,
+            INIT,
+            RETURN,
+        ],
+        want: Want::Typing(TypeKind::LockOperand, MAIN, 1),
+    },
+    // a return holds a monitor
+    Row {
+        flags: 9,
+        codes: [
+            &[0x12, 4, 0xc2, 0xb1],
+            RETURN,
+            RETURN,
+            RETURN,
+            RETURN,
+            INIT,
+            RETURN,
+        ],
+        want: Want::Typing(TypeKind::Unstructured, MAIN, 3),
+    },
+    // a thread is waited for that isn't started
+    Row {
+        flags: 9,
+        codes: [
+            &[0xbb, 0, 6, 0x59, 0xb7, 0, 19, 0xb6, 0, 25, 0xb1],
+            RETURN,
+            RETURN,
+            RETURN,
+            RETURN,
+            INIT,
+            RETURN,
+        ],
+        want: Want::Typing(TypeKind::ThreadState, MAIN, 7),
+    },
+    // two methods can't be typed: the first by place, which is called last
+    Row {
+        flags: 9,
+        codes: [
+            &[0xb8, 0, 48, 0xb8, 0, 51, 0xb1],
+            RETURN,
+            &[0, 0, 0x57, 0xb1],
+            &[0x57, 0xb1],
+            RETURN,
+            INIT,
+            RETURN,
+        ],
+        want: Want::Typing(TypeKind::TypeMisfit, B, 2),
+    },
+    // eight threads
+    Row {
+        flags: 9,
+        codes: [
+            &[
+                0xbb, 0, 6, 0x57, 0xbb, 0, 6, 0x57, 0xbb, 0, 6, 0x57, 0xbb, 0, 6, 0x57, 0xbb, 0, 6,
+                0x57, 0xbb, 0, 6, 0x57, 0xbb, 0, 6, 0x57, 0xb1,
+            ],
+            RETURN,
+            RETURN,
+            RETURN,
+            RETURN,
+            INIT,
+            RETURN,
+        ],
+        want: Want::Linked {
+            threads: &[MAIN, RUN, RUN, RUN, RUN, RUN, RUN, RUN],
+            volatile: &[],
+            monitors: 0,
+            methods: &[
+                Known {
+                    method: MAIN,
+                    monitor: None,
+                    operands: &[
+                        Operand::Make(1),
+                        Operand::Nothing,
+                        Operand::Make(2),
+                        Operand::Nothing,
+                        Operand::Make(3),
+                        Operand::Nothing,
+                        Operand::Make(4),
+                        Operand::Nothing,
+                        Operand::Make(5),
+                        Operand::Nothing,
+                        Operand::Make(6),
+                        Operand::Nothing,
+                        Operand::Make(7),
+                        Operand::Nothing,
+                        Operand::Nothing,
+                    ],
+                },
+                Known {
+                    method: RUN,
+                    monitor: None,
+                    operands: &[Operand::Nothing],
+                },
+            ],
+        },
+    },
+    // nine threads
+    Row {
+        flags: 9,
+        codes: [
+            &[
+                0xbb, 0, 6, 0x57, 0xbb, 0, 6, 0x57, 0xbb, 0, 6, 0x57, 0xbb, 0, 6, 0x57, 0xbb, 0, 6,
+                0x57, 0xbb, 0, 6, 0x57, 0xbb, 0, 6, 0x57, 0xbb, 0, 6, 0x57, 0xb1,
+            ],
+            RETURN,
+            RETURN,
+            RETURN,
+            RETURN,
+            INIT,
+            RETURN,
+        ],
+        want: Want::Limit(LimitKind::Threads),
+    },
+    // nine threads, whose run can't be typed
+    Row {
+        flags: 9,
+        codes: [
+            &[
+                0xbb, 0, 6, 0x57, 0xbb, 0, 6, 0x57, 0xbb, 0, 6, 0x57, 0xbb, 0, 6, 0x57, 0xbb, 0, 6,
+                0x57, 0xbb, 0, 6, 0x57, 0xbb, 0, 6, 0x57, 0xbb, 0, 6, 0x57, 0xb1,
+            ],
+            RETURN,
+            RETURN,
+            RETURN,
+            RETURN,
+            INIT,
+            &[0x57, 0xb1],
+        ],
+        want: Want::Typing(TypeKind::TypeMisfit, RUN, 0),
+    },
+    // a chain of four calls holds sixteen ints
+    Row {
+        flags: 9,
+        codes: [
+            &[0xb8, 0, 47, 0xb1],
+            &[0xb8, 0, 51, 0xb1],
+            &[0xb8, 0, 48, 0xb1],
+            RETURN,
+            RETURN,
+            INIT,
+            RETURN,
+        ],
+        want: Want::Linked {
+            threads: &[MAIN],
+            volatile: &[],
+            monitors: 0,
+            methods: &[
+                Known {
+                    method: MAIN,
+                    monitor: None,
+                    operands: &[Operand::Method(A), Operand::Nothing],
+                },
+                Known {
+                    method: A,
+                    monitor: None,
+                    operands: &[Operand::Method(B), Operand::Nothing],
+                },
+                Known {
+                    method: B,
+                    monitor: None,
+                    operands: &[Operand::Method(C), Operand::Nothing],
+                },
+                Known {
+                    method: C,
+                    monitor: None,
+                    operands: &[Operand::Nothing],
+                },
+            ],
+        },
+    },
+    // a chain of five calls holds twenty
+    Row {
+        flags: 9,
+        codes: [
+            &[0xb8, 0, 47, 0xb1],
+            &[0xb8, 0, 51, 0xb1],
+            &[0xb8, 0, 48, 0xb1],
+            &[0xb8, 0, 52, 0xb1],
+            RETURN,
+            INIT,
+            RETURN,
+        ],
+        want: Want::Limit(LimitKind::FrameSlots),
+    },
+    // the same, and the last method can't be typed
+    Row {
+        flags: 9,
+        codes: [
+            &[0xb8, 0, 47, 0xb1],
+            &[0xb8, 0, 51, 0xb1],
+            &[0xb8, 0, 48, 0xb1],
+            &[0xb8, 0, 52, 0xb1],
+            &[0x57, 0xb1],
+            INIT,
+            RETURN,
+        ],
+        want: Want::Typing(TypeKind::TypeMisfit, D, 0),
+    },
+];
+
+/// The record of a class file.
+fn class(alloc: Global, bytes: &[u8]) -> Result<ClassRecord, Fail>
+    ensures { IfOk result IsValid }
+{
+    valid_has_text();
+    Ok(read_class(alloc, bytes)?)
+}
+
+const fn part(flags: u8, name: u8, descriptor: u8, code: &'static [u8]) -> Part {
+    Part {
+        flags,
+        name,
+        descriptor,
+        code,
+    }
+}
+
+/// The classes M, N and T.
+fn classes(alloc: Global, row: &Row) -> Result<ClassList, Fail> {
+    let [main, a, b, c, d, init, run] = row.codes;
+    let m = class_bytes(
+        alloc,
+        2,
+        8,
+        &[
+            part(9, 12, 13, main),
+            part(row.flags, 45, 15, a),
+            part(9, 49, 15, b),
+        ],
+    )?;
+    let n = class_bytes(alloc, 4, 8, &[part(9, 45, 15, c), part(9, 49, 15, d)])?;
+    let t = class_bytes(alloc, 6, 10, &[part(1, 16, 15, init), part(1, 14, 15, run)])?;
+    let mut list = ClassList::new(alloc);
+    list.push(class(alloc, &m)?)?;
+    list.push(class(alloc, &n)?)?;
+    list.push(class(alloc, &t)?)?;
+    Ok(list)
+}
+
+/// Whether the program has exactly these methods.
+fn has_methods(program: &Program, want: &[Known]) -> bool {
+    for (place, id) in program.methods().iter().enumerate() {
+        let method = program.method(*id);
+        let Some(known) = want.get(place) else {
+            return false;
+        };
+        if *id != known.method
+            || method.frame.monitor != known.monitor
+            || method.operands.as_slice() != known.operands
+            || method.typed.len() != known.operands.len()
+        {
+            return false;
+        }
+    }
+    program.methods().len() == want.len()
+}
+
+/// Whether the threads of the program run exactly these methods.
+fn has_threads(program: &Program, want: &[MethodId]) -> bool {
+    for thread in 0..program.threads() {
+        if want.get(thread as usize) != Some(&program.entry(thread)) {
+            return false;
+        }
+    }
+    program.threads() as usize == want.len()
+}
+
+/// Whether exactly these variables are volatile.
+fn has_variables(program: &Program, want: &[bool]) -> bool {
+    let variables = program.variables();
+    variables.len() == want.len() && variables.iter().zip(want).all(|(v, w)| v.volatile == *w)
+}
+
+/// Whether what the classes make is what is wanted.
+fn is_wanted(alloc: Global, row: &Row) -> Result<bool, Fail> {
+    let classes = classes(alloc, row)?;
+    Ok(match (link(alloc, &classes), &row.want) {
+        (
+            Ok(program),
+            Want::Linked {
+                threads,
+                volatile,
+                monitors,
+                methods,
+            },
+        ) => {
+            has_threads(&program, threads)
+                && has_variables(&program, volatile)
+                && program.monitors().len() == *monitors
+                && has_methods(&program, methods)
+        }
+        (Err(ProgramRefusal::Class { kind, class }), Want::Class(want, at)) => {
+            kind == *want && class == *at
+        }
+        (
+            Err(
+                ProgramRefusal::Code {
+                    kind,
+                    method,
+                    pc,
+                    ..
+                },
+            ),
+            Want::Code(want, at, place),
+        ) => kind == *want && method == *at && pc == *place,
+        (Err(ProgramRefusal::Typing { kind, method, pc }), Want::Typing(want, at, place)) => {
+            kind == *want && method == *at && pc == *place
+        }
+        (Err(ProgramRefusal::Limit(kind)), Want::Limit(want)) => kind == *want,
+        _ => false,
+    })
+}
+
+#[test]
+fn links(rt: HostRuntime) -> Result<(), Fail> {
+    for (place, row) in ROWS.iter().enumerate() {
+        assert_eq!(rt; (place, is_wanted(rt.alloc(), row)?), (place, true));
+    }
+    Ok(())
+}

@@ -1,0 +1,15 @@
+pub mod FirstFaults
+pub mod Lists
+pub mod Codes
+pub mod ReadFaults
+pub mod NameFaults
+pub mod LoopFaults
+pub mod Leading
+pub mod Own
+pub mod Called
+pub mod Steps
+pub mod ByPlace
+pub mod Searches
+pub mod Reaches
+pub mod OneFault
+pub mod OneList

@@ -1,0 +1,17 @@
+pub mod Keys
+pub mod Behind
+pub mod Joins
+pub mod Places
+pub mod Arrivals
+pub mod Landing
+pub mod Steps
+pub mod Looks
+pub mod Begin
+pub mod Listed
+pub mod Final
+pub mod Unique
+pub mod Stacks
+pub mod Union
+pub mod Image
+pub mod Covered
+pub mod Faulty

@@ -1,0 +1,13 @@
+pub mod Deeds
+pub mod States
+pub mod Changes
+pub mod Meets
+pub mod Joining
+pub mod Faults
+pub mod Summaries
+pub mod Describing
+pub mod Paths
+pub mod Levels
+pub mod Listings
+pub mod Typing
+pub mod Laws

@@ -1,0 +1,8 @@
+-- One more target.
+use Rattle.std.proofs.Common.{arith}
+use Rattle.std.proofs.lemmas.Grind.{common_steps}
+use Rattle.std.proofs.lemmas.List.Elements.{filter_map-append}
+use Rattle.untyped_program.proofs.threads.add_threads.Goals as goal
+
+pub loop-target-preserved : goal.loop-target-preserved
+loop-target-preserved c = grind (arith, common_steps, filter_map-append)

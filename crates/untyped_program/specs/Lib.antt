@@ -1,0 +1,11 @@
+pub mod Variables
+pub mod Monitors
+pub mod Threads
+pub mod Methods
+pub mod Untyped
+pub mod Limits
+pub mod Descriptors
+pub mod Known
+pub mod Tables
+pub mod Edges
+pub mod Laws
