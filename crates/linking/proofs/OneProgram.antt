@@ -1,5 +1,5 @@
 -- Classes make at most one program.
-use Rattle.std.proofs.Common.{◌≡◌, ◌+◌, ℕ, zero, suc, List, [], ◌∷◌, Some, length, slice_get, refl, sym, ap, ◌∙◌, subst, arith}
+use Rattle.std.proofs.Common.{◌≡◌, ℕ, suc, List, [], ◌∷◌, Some, length, slice_get, refl, sym, ap, ◌∙◌, subst, arith}
 use Rattle.std.proofs.lemmas.Option.{slice_get_within}
 use Rattle.class_format.specs.declared.record.ClassRecord.{ClassRecord}
 use Rattle.opcodes.specs.declared.listed.Listed.{Listed}
@@ -19,7 +19,7 @@ use Rattle.untyped_program.specs.Laws.{OneUntypedProgram}
 use Rattle.untyped_program.specs.Untyped.{IsUntypedProgram}
 use Rattle.untyped_program.specs.declared.untyped.UntypedProgram.{UntypedProgram}
 use Rattle.linking.specs.Laws.{OneProgram}
-use Rattle.linking.specs.Linking.{AreTypedMethods, HasMainOf, IsProgramOf, IsTypedMethod, IsUntypedOf}
+use Rattle.linking.specs.Linking.{AreTypedMethods, HasMainOf, IsTypedMethod, IsUntypedOf}
 use Rattle.linking.specs.Operands.{operands_of}
 use Rattle.linking.proofs.Typable.{there_is}
 

@@ -3,7 +3,7 @@ use Rattle.std.proofs.Common.{◌≡◌, ◌≢◌, ◌<◌, ◌⊎◌, inl, inr
 use Rattle.std.proofs.lemmas.Option.{same_Some}
 use Rattle.class_format.specs.declared.record.ClassRecord.{ClassRecord}
 use Rattle.class_profile.specs.Laws as profile
-use Rattle.class_profile.specs.Profile.{IsFirstFault, IsOfProfile}
+use Rattle.class_profile.specs.Profile.{IsFirstFault}
 use Rattle.class_profile.specs.declared.refusal.ClassKind.{ClassKind}
 use Rattle.program.specs.Program.{Prog}
 use Rattle.program.specs.declared.method.MethodId.{MethodId}
@@ -20,7 +20,6 @@ use Rattle.untyped_program.specs.Limits.{IsFirstPassed, rank}
 use Rattle.untyped_program.specs.declared.refusal.LimitKind.{LimitKind}
 use Rattle.untyped_program.specs.declared.refusal.LimitKind.TheVariants.{Threads, Variables, FrameSlots}
 use Rattle.untyped_program.specs.declared.untyped.UntypedProgram.{UntypedProgram}
-use Rattle.linking.specs.Laws.{OneRefusal, ProgramOrRefusal}
 use Rattle.linking.specs.Linking.{HasMainOf, IsProgramOf, IsUntypedOf}
 use Rattle.linking.specs.Refusals.{IsCodeRefusal, IsLimitRefusal, IsRefusedFor, IsSound, IsTypingRefusal}
 use Rattle.linking.specs.declared.refusal.ProgramRefusal.{ProgramRefusal}

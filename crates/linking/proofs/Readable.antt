@@ -1,14 +1,12 @@
 -- The listing of faultless code: its first instruction is listed, and each of its places is reached.
-use Rattle.std.proofs.Common.{◌≡◌, ◌≢◌, ◌<◌, ◌≤◌, ◌+◌, ◌⊎◌, ◌<ℤ◌, ◌≤ℤ◌, inl, inr, ℕ, ℤ, pos, negsuc, Bool, true, false, cond, eqb-true, is_some, List, [], ◌∷◌, Option, None, Some, length, get_or, slice_get, slice_index, sym, ap, subst, ◌∙◌, refl, arith}
+use Rattle.std.proofs.Common.{◌≡◌, ◌≢◌, ◌<◌, ◌≤◌, ◌+◌, ◌⊎◌, inl, inr, ℕ, ℤ, pos, Bool, true, false, cond, eqb-true, is_some, List, [], ◌∷◌, Option, None, Some, length, get_or, slice_get, slice_index, sym, ap, subst, ◌∙◌, refl}
 use Rattle.std.specs.Prelude.{find, ◌==◌}
 use Rattle.std.specs.Int.{w8, w16, cast_signed}
-use Rattle.std.proofs.lemmas.Bool.{cases_lt, le-leb}
-use Rattle.std.proofs.lemmas.Float.{T_from_true}
-use Rattle.std.proofs.Math.Dec.{leb}
+use Rattle.std.proofs.lemmas.Bool.{cases_lt}
 use Rattle.std.proofs.lemmas.Option.{slice_get-get_or}
 use Rattle.relations.specs.Path.{Walk, here, on}
-use Rattle.opcodes.specs.Faults.{HasFault, unknown, cut, leaves, IsCut, IsUnknown}
-use Rattle.opcodes.specs.Instructions.{number_of, length_of, operands_of, two_bytes, AreOperands, Decodes, Follows, Successor}
+use Rattle.opcodes.specs.Faults.{HasFault, unknown, cut, IsCut, IsUnknown}
+use Rattle.opcodes.specs.Instructions.{number_of, length_of, operands_of, two_bytes, AreOperands, Decodes, Follows}
 use Rattle.opcodes.specs.Listing.{StandsAt}
 use Rattle.opcodes.specs.Reached.{Reached, IsListingOf}
 use Rattle.opcodes.specs.declared.instruction.Instr.{Instr}
