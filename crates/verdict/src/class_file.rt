@@ -11,9 +11,9 @@ ghost use Rattle.verdict.specs.Stops.{IsUnlinked, HasNoText, IsUnlinkedClass};
 
 use crate::stop::Stop;
 use class_format::{ClassRecord, FormatRefusal, one_record, read_class};
-use straight_linking::{ClassList, ProgramRefusal, link};
 use program::Program;
 use std::alloc::Global;
+use straight_linking::{ClassList, ProgramRefusal, link};
 
 /// The greatest number of bytes of a class file.
 pub(crate) const LIMIT: usize = 1048576;
