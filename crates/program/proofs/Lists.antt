@@ -1,5 +1,8 @@
 -- What stands in a list.
-use Rattle.std.proofs.Common.{◌≡◌, ℕ, zero, suc, List, [], ◌∷◌, map, get_or, Some, slice_get, arith, refl, ◌∙◌, ap, subst, inl, inr, ◌⊎◌, All, Contains}
+use Rattle.std.proofs.Common.{◌≡◌, ℕ, zero, suc, List, [], ◌∷◌, map, get_or, Some, slice_get, arith, refl, ◌∙◌, ◌≢◌, ap, subst, sym, inl, inr, ◌⊎◌, All, Contains}
+use Rattle.std.specs.List.{AllPairs}
+use Rattle.std.proofs.lemmas.Bool.{cases_lt}
+use Rattle.std.proofs.lemmas.List.{get_or_default}
 use Rattle.std.proofs.lemmas.Option.{slice_get-get_or, get_or_from_slice_get, slice_get_within, none-some, same_Some}
 use Rattle.std.specs.Option.{option_map}
 
@@ -71,3 +74,16 @@ pub slice_get_of : {X Y : Type 0} (f : X → Y) (xs : List X) (k : ℕ) (x : X) 
 slice_get_of f [] k x is = absurd (none-some x is)
 slice_get_of f (z ∷ xs) zero x is = ap (λ o. option_map f o) is
 slice_get_of f (z ∷ xs) (suc k) x is = slice_get_of f xs k x is
+
+-- of elements that are pairwise different by something, two with the same are one
+pub one_of : {X Y : Type 0} (f : X → Y) (xs : List X) (x y : X) → AllPairs (λ a b. f a ≢ f b) xs → Contains xs x → Contains xs y → f x ≡ f y → x ≡ y
+one_of {X} f xs x y apart (k, within, is) (l, within', is') same = elim (cases_lt k l) [
+  | inl before ↦ absurd (apart k l x before within' (ap f is ∙ same ∙ ap f (sym there)))
+  | inr rest ↦ elim (cases_lt l k) [
+    | inl behind ↦ absurd (apart l k x behind within (ap f there ∙ sym same ∙ ap f (sym is)))
+    | inr back ↦ sym is ∙ ap (λ (i : ℕ). get_or xs i x) (omega (arith, rest, back)) ∙ there
+  ]
+]
+  where
+    there : get_or xs l x ≡ y
+    there = get_or_default xs l x y within' ∙ is'

@@ -1,3 +1,4 @@
+pub mod Accessors
 pub mod Bounds
 pub mod Ints
 pub mod Names

@@ -2,6 +2,7 @@
 //! thread is (docs/MODEL.md, "Programs and runs").
 #![tactic(auto)]
 
+mod accessors;
 mod event;
 mod items;
 mod kind;

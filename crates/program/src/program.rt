@@ -148,6 +148,16 @@ impl Program {
         requires { Contains (map (λ m. m.id) self.now.methods) id }
         ensures { IsMethod self.now id result.now }
     {
+        self.reached(id)
+    }
+
+    /// A reached method, the one that has this id. Each of its instructions has its operand.
+    pub(crate) fn reached(&self, id: MethodId) -> &Method
+        requires { Contains (map (λ m. m.id) self.now.methods) id }
+        ensures named { IsMethod self.now id result.now }
+        ensures only { (m : Method) → IsMethod self.now id m → m ≡ result.now }
+        ensures operands { HasOperands result.now }
+    {
         for method in &self.methods {
             if method.id == id {
                 return method;
@@ -202,7 +212,8 @@ mod tests {
         assert!(rt; program.variables()[0].volatile);
         assert_eq!(rt; program.monitors().len(), 1);
         assert_eq!(rt; program.methods(), [MAIN].as_slice());
-        assert_eq!(rt; program.method(MAIN).frame.max_stack, 2);
+        assert_eq!(rt; program.frame(MAIN).max_stack, 2);
+        assert!(rt; program.listing(MAIN).is_empty());
         Ok(())
     }
 }
