@@ -1,0 +1,5 @@
+mod Classes
+mod Comes
+mod Limits
+mod Lists
+mod Told
