@@ -1,5 +1,5 @@
 -- Lists of one element.
-use Rattle.std.proofs.Common.{◌≡◌, ◌<◌, true, eqb, ◌&&◌, ℕ, zero, suc, List, [], ◌∷◌, Some, Contains, length, slice_get, slice_index_or, map, arith, sym, ap, ◌∙◌}
+use Rattle.std.proofs.Common.{◌≡◌, true, eqb, ◌&&◌, zero, suc, List, [], ◌∷◌, Some, Contains, length, slice_get, arith, ap}
 use Rattle.std.proofs.lemmas.Bool.Decides.{nat_tests}
 use Rattle.program.specs.declared.method.Method.{Method}
 use Rattle.program.specs.declared.method.MethodId.{MethodId}

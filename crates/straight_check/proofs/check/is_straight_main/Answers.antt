@@ -1,5 +1,5 @@
 -- Where the lists are not equally long, the code is not straight.
-use Rattle.std.proofs.Common.{◌≡◌, length, arith}
+use Rattle.std.proofs.Common.{arith}
 use Rattle.straight_check.proofs.Lengths.{as_many}
 use Rattle.straight_check.proofs.Typed.{never}
 use Rattle.straight_check.proofs.check.is_straight_main.Goals as goal

@@ -2,7 +2,6 @@
 use Rattle.std.proofs.Common.{◌≡◌, [], ◌∷◌, length, sym, ap, ◌∙◌, arith}
 use Rattle.std.proofs.lemmas.List.{length-map}
 use Rattle.program.specs.declared.method.Method.{Method}
-use Rattle.program.specs.declared.method.MethodId.{MethodId}
 use Rattle.straight_check.proofs.Alone.{one_thread, one_method, same_id}
 use Rattle.straight_check.proofs.check.method_alone.Goals as goal
 
