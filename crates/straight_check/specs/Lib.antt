@@ -1,1 +1,4 @@
 pub mod StraightProgram
+pub mod Telling
+pub mod Names
+pub mod Parts

@@ -2,5 +2,11 @@
 #![tactic(auto)]
 
 mod check;
+mod code;
+mod size;
+#[cfg(test)]
+mod tests;
+mod type_stack;
+mod variables;
 
 pub use check::is_straight;

@@ -1,0 +1,4 @@
+pub mod Alone
+pub mod Changes
+pub mod Lengths
+pub mod Typed
