@@ -8,10 +8,10 @@ mod data;
 use crate::{ClassList, ProgramRefusal, link};
 use class_format::{ClassRecord, read_class, valid_has_text};
 use class_profile::ClassKind;
-use data::{Part, class_bytes};
+use data::{Field, Head, Part, class_bytes};
 use program::{MethodId, Operand, Program};
 use reached_methods::CodeKind;
-use std::alloc::Global;
+use std::alloc::{AllocError, Global};
 use std::test::Fail;
 use typing::TypeKind;
 use untyped_program::LimitKind;
@@ -73,16 +73,40 @@ enum Want {
     Limit(LimitKind),
 }
 
+/// What is other than usual in the classes.
+#[derive(Clone, Copy)]
+enum Twist {
+    Nothing,
+    /// N has the name of M.
+    SameClass,
+    /// M.main isn't static.
+    NoMain,
+    /// M.b is a class initializer.
+    ClassInit,
+    /// The second field of N isn't static.
+    InstanceField,
+    /// The second field of N is a PrintStream.
+    FieldType,
+    /// N is an interface.
+    Interface,
+    /// The second method of N has the name of the first.
+    SameMethod,
+    /// y of M is final.
+    Final,
+}
+
 /// The flags of M.a, the codes of M.main, M.a, M.b, N.a, N.b, T.<init> and T.run, and what comes of them.
 struct Row {
+    twist: Twist,
     flags: u8,
     codes: [&'static [u8]; 7],
     want: Want,
 }
 
-const ROWS: [Row; 20] = [
+const ROWS: [Row; 34] = [
     // a thread is made, started and waited for; it reads a volatile variable
     Row {
+        twist: Twist::Nothing,
         flags: 9,
         codes: [
             &[
@@ -123,6 +147,7 @@ const ROWS: [Row; 20] = [
     },
     // a monitor is entered and left, and a synchronized method called, which prints y
     Row {
+        twist: Twist::Nothing,
         flags: 0x29,
         codes: [
             &[0x12, 2, 0x59, 0xc2, 0xc3, 0xb8, 0, 47, 0xb1],
@@ -165,6 +190,7 @@ const ROWS: [Row; 20] = [
     },
     // an unreached method may be anything
     Row {
+        twist: Twist::Nothing,
         flags: 9,
         codes: [
             &[8, 0xb3, 0, 29, 0xb1],
@@ -188,30 +214,173 @@ const ROWS: [Row; 20] = [
     },
     // the constructor of T does more than it may
     Row {
+        twist: Twist::Nothing,
         flags: 9,
         codes: [RETURN, RETURN, RETURN, RETURN, RETURN, RETURN, RETURN],
         want: Want::Class(ClassKind::Constructor, Some(2)),
     },
     // the same, and an unknown number in main
     Row {
+        twist: Twist::Nothing,
         flags: 9,
         codes: [&[0x6c], RETURN, RETURN, RETURN, RETURN, RETURN, RETURN],
         want: Want::Class(ClassKind::Constructor, Some(2)),
     },
+    // two classes have one name
+    Row {
+        twist: Twist::SameClass,
+        flags: 9,
+        codes: [RETURN, RETURN, RETURN, RETURN, RETURN, INIT, RETURN],
+        want: Want::Class(ClassKind::DuplicateClass, Some(1)),
+    },
+    // main isn't static
+    Row {
+        twist: Twist::NoMain,
+        flags: 9,
+        codes: [RETURN, RETURN, RETURN, RETURN, RETURN, INIT, RETURN],
+        want: Want::Class(ClassKind::NoMain, None),
+    },
+    // M has a class initializer
+    Row {
+        twist: Twist::ClassInit,
+        flags: 9,
+        codes: [RETURN, RETURN, RETURN, RETURN, RETURN, INIT, RETURN],
+        want: Want::Class(ClassKind::ClassInit, Some(0)),
+    },
+    // N has a field of objects
+    Row {
+        twist: Twist::InstanceField,
+        flags: 9,
+        codes: [RETURN, RETURN, RETURN, RETURN, RETURN, INIT, RETURN],
+        want: Want::Class(ClassKind::InstanceField, Some(1)),
+    },
+    // N has a field that is no int
+    Row {
+        twist: Twist::FieldType,
+        flags: 9,
+        codes: [RETURN, RETURN, RETURN, RETURN, RETURN, INIT, RETURN],
+        want: Want::Class(ClassKind::FieldType, Some(1)),
+    },
+    // N is an interface
+    Row {
+        twist: Twist::Interface,
+        flags: 9,
+        codes: [RETURN, RETURN, RETURN, RETURN, RETURN, INIT, RETURN],
+        want: Want::Class(ClassKind::ThreadClass, Some(1)),
+    },
+    // N has two methods of one name and descriptor
+    Row {
+        twist: Twist::SameMethod,
+        flags: 9,
+        codes: [RETURN, RETURN, RETURN, RETURN, RETURN, INIT, RETURN],
+        want: Want::Class(ClassKind::NameForm, Some(1)),
+    },
+    // N is an interface, but the constructor of T counts first
+    Row {
+        twist: Twist::Interface,
+        flags: 9,
+        codes: [RETURN, RETURN, RETURN, RETURN, RETURN, RETURN, RETURN],
+        want: Want::Class(ClassKind::Constructor, Some(2)),
+    },
+    // an operand is cut off
+    Row {
+        twist: Twist::Nothing,
+        flags: 9,
+        codes: [&[0, 0x10], RETURN, RETURN, RETURN, RETURN, INIT, RETURN],
+        want: Want::Code(CodeKind::CutInstruction, MAIN, 1),
+    },
+    // a name that no field has
+    Row {
+        twist: Twist::Nothing,
+        flags: 9,
+        codes: [
+            &[0xb2, 0, 47, 0xb1],
+            RETURN,
+            RETURN,
+            RETURN,
+            RETURN,
+            INIT,
+            RETURN,
+        ],
+        want: Want::Code(CodeKind::UnknownName, MAIN, 0),
+    },
+    // a thread is made outside of main
+    Row {
+        twist: Twist::Nothing,
+        flags: 9,
+        codes: [
+            &[0xb8, 0, 47, 0xb1],
+            &[0xbb, 0, 6, 0x57, 0xb1],
+            RETURN,
+            RETURN,
+            RETURN,
+            INIT,
+            RETURN,
+        ],
+        want: Want::Code(CodeKind::ForbiddenCall, A, 0),
+    },
+    // a final field is read
+    Row {
+        twist: Twist::Final,
+        flags: 9,
+        codes: [
+            &[0xb2, 0, 32, 0x57, 0xb1],
+            RETURN,
+            RETURN,
+            RETURN,
+            RETURN,
+            INIT,
+            RETURN,
+        ],
+        want: Want::Code(CodeKind::FinalAccess, MAIN, 0),
+    },
+    // a method calls itself by another
+    Row {
+        twist: Twist::Nothing,
+        flags: 9,
+        codes: [
+            &[0xb8, 0, 47, 0xb1],
+            &[0xb8, 0, 51, 0xb1],
+            &[0, 0xb8, 0, 47, 0xb1],
+            RETURN,
+            RETURN,
+            INIT,
+            RETURN,
+        ],
+        want: Want::Code(CodeKind::Recursion, A, 0),
+    },
+    // a thread is made in a loop
+    Row {
+        twist: Twist::Nothing,
+        flags: 9,
+        codes: [
+            &[0xbb, 0, 6, 0x57, 0xa7, 0xff, 0xfc],
+            RETURN,
+            RETURN,
+            RETURN,
+            RETURN,
+            INIT,
+            RETURN,
+        ],
+        want: Want::Code(CodeKind::ThreadInLoop, MAIN, 0),
+    },
     // an unknown number in main
     Row {
+        twist: Twist::Nothing,
         flags: 9,
         codes: [&[0, 0x6c], RETURN, RETURN, RETURN, RETURN, INIT, RETURN],
         want: Want::Code(CodeKind::Opcode, MAIN, 1),
     },
     // main falls out of its code
     Row {
+        twist: Twist::Nothing,
         flags: 9,
         codes: [&[0], RETURN, RETURN, RETURN, RETURN, INIT, RETURN],
         want: Want::Code(CodeKind::JumpTarget, MAIN, 0),
     },
     // main can't be typed, and N.a has an unknown number
     Row {
+        twist: Twist::Nothing,
         flags: 9,
         codes: [
             &[0x57, 0xb8, 0, 48, 0xb1],
@@ -226,6 +395,7 @@ const ROWS: [Row; 20] = [
     },
     // nothing is on the stack
     Row {
+        twist: Twist::Nothing,
         flags: 9,
         codes: [
             &[0, 0x57, 0xb1],
@@ -240,6 +410,7 @@ const ROWS: [Row; 20] = [
     },
     // a stack of three
     Row {
+        twist: Twist::Nothing,
         flags: 9,
         codes: [
             &[3, 3, 3, 0xb1],
@@ -254,6 +425,7 @@ const ROWS: [Row; 20] = [
     },
     // an int is locked
     Row {
+        twist: Twist::Nothing,
         flags: 9,
         codes: [
             &[3, 0xc2, 0xb1],
@@ -268,6 +440,7 @@ const ROWS: [Row; 20] = [
     },
     // a return holds a monitor
     Row {
+        twist: Twist::Nothing,
         flags: 9,
         codes: [
             &[0x12, 4, 0xc2, 0xb1],
@@ -282,6 +455,7 @@ const ROWS: [Row; 20] = [
     },
     // a thread is waited for that isn't started
     Row {
+        twist: Twist::Nothing,
         flags: 9,
         codes: [
             &[0xbb, 0, 6, 0x59, 0xb7, 0, 19, 0xb6, 0, 25, 0xb1],
@@ -296,6 +470,7 @@ const ROWS: [Row; 20] = [
     },
     // two methods can't be typed: the first by place, which is called last
     Row {
+        twist: Twist::Nothing,
         flags: 9,
         codes: [
             &[0xb8, 0, 48, 0xb8, 0, 51, 0xb1],
@@ -310,6 +485,7 @@ const ROWS: [Row; 20] = [
     },
     // eight threads
     Row {
+        twist: Twist::Nothing,
         flags: 9,
         codes: [
             &[
@@ -359,6 +535,7 @@ const ROWS: [Row; 20] = [
     },
     // nine threads
     Row {
+        twist: Twist::Nothing,
         flags: 9,
         codes: [
             &[
@@ -376,6 +553,7 @@ const ROWS: [Row; 20] = [
     },
     // nine threads, whose run can't be typed
     Row {
+        twist: Twist::Nothing,
         flags: 9,
         codes: [
             &[
@@ -393,6 +571,7 @@ const ROWS: [Row; 20] = [
     },
     // a chain of four calls holds sixteen ints
     Row {
+        twist: Twist::Nothing,
         flags: 9,
         codes: [
             &[0xb8, 0, 47, 0xb1],
@@ -433,6 +612,7 @@ const ROWS: [Row; 20] = [
     },
     // a chain of five calls holds twenty
     Row {
+        twist: Twist::Nothing,
         flags: 9,
         codes: [
             &[0xb8, 0, 47, 0xb1],
@@ -447,6 +627,7 @@ const ROWS: [Row; 20] = [
     },
     // the same, and the last method can't be typed
     Row {
+        twist: Twist::Nothing,
         flags: 9,
         codes: [
             &[0xb8, 0, 47, 0xb1],
@@ -478,25 +659,73 @@ const fn part(flags: u8, name: u8, descriptor: u8, code: &'static [u8]) -> Part 
     }
 }
 
+/// The class M.
+fn first_class(alloc: Global, row: &Row) -> Result<Vec<u8>, AllocError> {
+    let [main, a, b, ..] = row.codes;
+    let flags = if let Twist::NoMain = row.twist { 1 } else { 9 };
+    let name = if let Twist::ClassInit = row.twist {
+        53
+    } else {
+        49
+    };
+    let second = if let Twist::Final = row.twist {
+        0x18
+    } else {
+        8
+    };
+    let parts = [
+        part(flags, 12, 13, main),
+        part(row.flags, 45, 15, a),
+        part(9, name, 15, b),
+    ];
+    class_bytes(alloc, Head::new(2, 8), Field::new(second, 27), &parts)
+}
+
+/// The class N.
+fn second_class(alloc: Global, row: &Row) -> Result<Vec<u8>, AllocError> {
+    let [_, _, _, a, b, ..] = row.codes;
+    let name = if let Twist::SameClass = row.twist {
+        2
+    } else {
+        4
+    };
+    let interface = matches!(row.twist, Twist::Interface);
+    let flags = if let Twist::InstanceField = row.twist {
+        0
+    } else {
+        8
+    };
+    let descriptor = if let Twist::FieldType = row.twist {
+        36
+    } else {
+        27
+    };
+    let second = if let Twist::SameMethod = row.twist {
+        45
+    } else {
+        49
+    };
+    let parts = [part(9, 45, 15, a), part(9, second, 15, b)];
+    let head = Head {
+        interface,
+        ..Head::new(name, 8)
+    };
+    class_bytes(alloc, head, Field::new(flags, descriptor), &parts)
+}
+
+/// The class T.
+fn third_class(alloc: Global, row: &Row) -> Result<Vec<u8>, AllocError> {
+    let [_, _, _, _, _, init, run] = row.codes;
+    let parts = [part(1, 16, 15, init), part(1, 14, 15, run)];
+    class_bytes(alloc, Head::new(6, 10), Field::new(8, 27), &parts)
+}
+
 /// The classes M, N and T.
 fn classes(alloc: Global, row: &Row) -> Result<ClassList, Fail> {
-    let [main, a, b, c, d, init, run] = row.codes;
-    let m = class_bytes(
-        alloc,
-        2,
-        8,
-        &[
-            part(9, 12, 13, main),
-            part(row.flags, 45, 15, a),
-            part(9, 49, 15, b),
-        ],
-    )?;
-    let n = class_bytes(alloc, 4, 8, &[part(9, 45, 15, c), part(9, 49, 15, d)])?;
-    let t = class_bytes(alloc, 6, 10, &[part(1, 16, 15, init), part(1, 14, 15, run)])?;
     let mut list = ClassList::new(alloc);
-    list.push(class(alloc, &m)?)?;
-    list.push(class(alloc, &n)?)?;
-    list.push(class(alloc, &t)?)?;
+    list.push(class(alloc, &first_class(alloc, row)?)?)?;
+    list.push(class(alloc, &second_class(alloc, row)?)?)?;
+    list.push(class(alloc, &third_class(alloc, row)?)?)?;
     Ok(list)
 }
 

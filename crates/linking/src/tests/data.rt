@@ -64,8 +64,40 @@ const POOL: [Entry; 53] = [
     Entry::Pair(49, 15),
     Entry::Method(2, 50),
     Entry::Method(4, 50),
-    Entry::Text(b"z"),
+    Entry::Text(b"<clinit>"),
 ];
+
+/// The indices of a class and of its superclass, and whether it is an interface.
+#[derive(Clone, Copy)]
+pub struct Head {
+    pub this: u8,
+    pub parent: u8,
+    pub interface: bool,
+}
+
+impl Head {
+    /// A class that is no interface.
+    pub const fn new(this: u8, parent: u8) -> Head {
+        Head {
+            this,
+            parent,
+            interface: false,
+        }
+    }
+}
+
+/// The flags of the second field, and the index of its descriptor.
+#[derive(Clone, Copy)]
+pub struct Field {
+    pub flags: u8,
+    pub descriptor: u8,
+}
+
+impl Field {
+    pub const fn new(flags: u8, descriptor: u8) -> Field {
+        Field { flags, descriptor }
+    }
+}
 
 /// A method: its flags, the indices of its name and of its descriptor, and its code.
 #[derive(Clone, Copy)]
@@ -105,8 +137,8 @@ fn add_method(out: &mut Vec<u8>, part: &Part) -> Result<(), AllocError> {
 /// stack of two.
 pub fn class_bytes(
     alloc: Global,
-    this: u8,
-    parent: u8,
+    head: Head,
+    second: Field,
     parts: &[Part],
 ) -> Result<Vec<u8>, AllocError> {
     let mut out = Vec::new(alloc);
@@ -114,9 +146,10 @@ pub fn class_bytes(
     for item in &POOL {
         add_entry(&mut out, item)?;
     }
-    out.extend_from_slice(&[0, 0x21, 0, this, 0, parent, 0, 0, 0, 2])?;
-    out.extend_from_slice(&[0, 0x48, 0, 26, 0, 27, 0, 0])?;
-    out.extend_from_slice(&[0, 8, 0, 30, 0, 27, 0, 0])?;
+    let interface = if head.interface { 2 } else { 0 };
+    out.extend_from_slice(&[interface, 0x21, 0, head.this, 0, head.parent])?;
+    out.extend_from_slice(&[0, 0, 0, 2, 0, 0x48, 0, 26, 0, 27, 0, 0])?;
+    out.extend_from_slice(&[0, second.flags, 0, 30, 0, second.descriptor, 0, 0])?;
     out.extend_from_slice(&[0, u8::try_from(parts.len()).unwrap_or(0)])?;
     for part in parts {
         add_method(&mut out, part)?;
