@@ -8,7 +8,7 @@ mod data;
 use crate::{ClassList, ProgramRefusal, link};
 use class_format::{ClassRecord, read_class, valid_has_text};
 use class_profile::ClassKind;
-use data::{Field, Head, Part, class_bytes};
+use data::{Field, Head, MORE, Part, class_bytes};
 use program::{MethodId, Operand, Program};
 use reached_methods::CodeKind;
 use std::alloc::{AllocError, Global};
@@ -93,6 +93,8 @@ enum Twist {
     SameMethod,
     /// y of M is final.
     Final,
+    /// M has sixteen more fields.
+    MoreFields,
 }
 
 /// The flags of M.a, the codes of M.main, M.a, M.b, N.a, N.b, T.<init> and T.run, and what comes of them.
@@ -103,7 +105,7 @@ struct Row {
     want: Want,
 }
 
-const ROWS: [Row; 34] = [
+const ROWS: [Row; 35] = [
     // a thread is made, started and waited for; it reads a volatile variable
     Row {
         twist: Twist::Nothing,
@@ -569,6 +571,26 @@ const ROWS: [Row; 34] = [
         ],
         want: Want::Typing(TypeKind::TypeMisfit, RUN, 0),
     },
+    // seventeen variables
+    Row {
+        twist: Twist::MoreFields,
+        flags: 9,
+        codes: [
+            &[
+                0xb2, 0, 29, 0x57, 0xb2, 0, 32, 0x57, 0xb2, 0, 70, 0x57, 0xb2, 0, 71, 0x57, 0xb2,
+                0, 72, 0x57, 0xb2, 0, 73, 0x57, 0xb2, 0, 74, 0x57, 0xb2, 0, 75, 0x57, 0xb2, 0, 76,
+                0x57, 0xb2, 0, 77, 0x57, 0xb2, 0, 78, 0x57, 0xb2, 0, 79, 0x57, 0xb2, 0, 80, 0x57,
+                0xb2, 0, 81, 0x57, 0xb2, 0, 82, 0x57, 0xb2, 0, 83, 0x57, 0xb2, 0, 84, 0x57, 0xb1,
+            ],
+            RETURN,
+            RETURN,
+            RETURN,
+            RETURN,
+            INIT,
+            RETURN,
+        ],
+        want: Want::Limit(LimitKind::Variables),
+    },
     // a chain of four calls holds sixteen ints
     Row {
         twist: Twist::Nothing,
@@ -673,12 +695,17 @@ fn first_class(alloc: Global, row: &Row) -> Result<Vec<u8>, AllocError> {
     } else {
         8
     };
+    let more = if let Twist::MoreFields = row.twist {
+        MORE.as_slice()
+    } else {
+        &[]
+    };
     let parts = [
         part(flags, 12, 13, main),
         part(row.flags, 45, 15, a),
         part(9, name, 15, b),
     ];
-    class_bytes(alloc, Head::new(2, 8), Field::new(second, 27), &parts)
+    class_bytes(alloc, Head::new(2, 8), Field::new(second, 27), more, &parts)
 }
 
 /// The class N.
@@ -710,14 +737,14 @@ fn second_class(alloc: Global, row: &Row) -> Result<Vec<u8>, AllocError> {
         interface,
         ..Head::new(name, 8)
     };
-    class_bytes(alloc, head, Field::new(flags, descriptor), &parts)
+    class_bytes(alloc, head, Field::new(flags, descriptor), &[], &parts)
 }
 
 /// The class T.
 fn third_class(alloc: Global, row: &Row) -> Result<Vec<u8>, AllocError> {
     let [_, _, _, _, _, init, run] = row.codes;
     let parts = [part(1, 16, 15, init), part(1, 14, 15, run)];
-    class_bytes(alloc, Head::new(6, 10), Field::new(8, 27), &parts)
+    class_bytes(alloc, Head::new(6, 10), Field::new(8, 27), &[], &parts)
 }
 
 /// The classes M, N and T.

@@ -11,7 +11,7 @@ enum Entry {
     Pair(u8, u8),
 }
 
-const POOL: [Entry; 53] = [
+const POOL: [Entry; 85] = [
     Entry::Text(b"M"),
     Entry::Class(1),
     Entry::Text(b"N"),
@@ -65,6 +65,38 @@ const POOL: [Entry; 53] = [
     Entry::Method(2, 50),
     Entry::Method(4, 50),
     Entry::Text(b"<clinit>"),
+    Entry::Pair(1, 27),
+    Entry::Pair(3, 27),
+    Entry::Pair(5, 27),
+    Entry::Pair(11, 27),
+    Entry::Pair(12, 27),
+    Entry::Pair(14, 27),
+    Entry::Pair(15, 27),
+    Entry::Pair(16, 27),
+    Entry::Pair(20, 27),
+    Entry::Pair(23, 27),
+    Entry::Pair(27, 27),
+    Entry::Pair(35, 27),
+    Entry::Pair(41, 27),
+    Entry::Pair(42, 27),
+    Entry::Pair(45, 27),
+    Entry::Pair(49, 27),
+    Entry::Field(2, 54),
+    Entry::Field(2, 55),
+    Entry::Field(2, 56),
+    Entry::Field(2, 57),
+    Entry::Field(2, 58),
+    Entry::Field(2, 59),
+    Entry::Field(2, 60),
+    Entry::Field(2, 61),
+    Entry::Field(2, 62),
+    Entry::Field(2, 63),
+    Entry::Field(2, 64),
+    Entry::Field(2, 65),
+    Entry::Field(2, 66),
+    Entry::Field(2, 67),
+    Entry::Field(2, 68),
+    Entry::Field(2, 69),
 ];
 
 /// The indices of a class and of its superclass, and whether it is an interface.
@@ -98,6 +130,9 @@ impl Field {
         Field { flags, descriptor }
     }
 }
+
+/// The indices of the names of sixteen more fields, whose Fieldrefs have the indices from 70 on.
+pub const MORE: [u8; 16] = [1, 3, 5, 11, 12, 14, 15, 16, 20, 23, 27, 35, 41, 42, 45, 49];
 
 /// A method: its flags, the indices of its name and of its descriptor, and its code.
 #[derive(Clone, Copy)]
@@ -133,23 +168,28 @@ fn add_method(out: &mut Vec<u8>, part: &Part) -> Result<(), AllocError> {
     Ok(())
 }
 
-/// The bytes of a class with the static ints x, which is volatile, and y, and with these methods, each of two locals and a
-/// stack of two.
+/// The bytes of a class with the static ints x, which is volatile, and y, and those that `more` names, and with these methods,
+/// each of two locals and a stack of two.
 pub fn class_bytes(
     alloc: Global,
     head: Head,
     second: Field,
+    more: &[u8],
     parts: &[Part],
 ) -> Result<Vec<u8>, AllocError> {
     let mut out = Vec::new(alloc);
-    out.extend_from_slice(&[0xca, 0xfe, 0xba, 0xbe, 0, 0, 0, 49, 0, 54])?;
+    out.extend_from_slice(&[0xca, 0xfe, 0xba, 0xbe, 0, 0, 0, 49, 0, 86])?;
     for item in &POOL {
         add_entry(&mut out, item)?;
     }
     let interface = if head.interface { 2 } else { 0 };
+    let fields = u8::try_from(more.len()).unwrap_or(0).wrapping_add(2);
     out.extend_from_slice(&[interface, 0x21, 0, head.this, 0, head.parent])?;
-    out.extend_from_slice(&[0, 0, 0, 2, 0, 0x48, 0, 26, 0, 27, 0, 0])?;
+    out.extend_from_slice(&[0, 0, 0, fields, 0, 0x48, 0, 26, 0, 27, 0, 0])?;
     out.extend_from_slice(&[0, second.flags, 0, 30, 0, second.descriptor, 0, 0])?;
+    for name in more {
+        out.extend_from_slice(&[0, 8, 0, *name, 0, 27, 0, 0])?;
+    }
     out.extend_from_slice(&[0, u8::try_from(parts.len()).unwrap_or(0)])?;
     for part in parts {
         add_method(&mut out, part)?;
