@@ -1,5 +1,5 @@
 -- From the files and their classes to what the words come to.
-use Rattle.std.proofs.Common.{◌≡◌, ◌<◌, ◌≤◌, ◌+◌, ℕ, List, [], Some, length, get_or, slice_get, sym, subst, arith}
+use Rattle.std.proofs.Common.{◌≡◌, ◌≤◌, ◌+◌, ℕ, List, [], Some, length, get_or, slice_get, sym, subst, arith}
 use Rattle.std.proofs.lemmas.Option.{slice_get-get_or, slice_get_within}
 use Rattle.class_format.specs.ClassText.{ClassText}
 use Rattle.class_format.specs.Refusals.{IsFirstFault}
