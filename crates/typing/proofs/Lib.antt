@@ -15,3 +15,4 @@ pub mod Union
 pub mod Image
 pub mod Covered
 pub mod Faulty
+pub mod Led
