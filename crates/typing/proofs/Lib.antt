@@ -16,3 +16,4 @@ pub mod Image
 pub mod Covered
 pub mod Faulty
 pub mod Led
+pub mod Ranks
