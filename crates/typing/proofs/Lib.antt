@@ -15,3 +15,5 @@ pub mod Union
 pub mod Image
 pub mod Covered
 pub mod Faulty
+pub mod Led
+pub mod Ranks

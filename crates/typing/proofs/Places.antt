@@ -8,7 +8,7 @@ use Rattle.std.proofs.lemmas.Option.{none-some, same_Some, slice_get_within, get
 use Rattle.opcodes.specs.Listing.{IsByPc}
 use Rattle.opcodes.specs.declared.listed.Listed.{Listed}
 use Rattle.std.specs.Prelude.{negsuc, ◌+ℤ◌, ◌+◌}
-use Rattle.opcodes.specs.Instructions.{FallsThrough, jump_of, length_of}
+use Rattle.opcodes.specs.Instructions.{FallsThrough, jump_of, length_of, Successor, jumps}
 use Rattle.typing.specs.Levels.{IsPlaceOf, FallsTo, JumpsTo, natural_of}
 
 -- an instruction of this place of the code stands where the search ended
@@ -89,3 +89,6 @@ pub does_fall : (xs : List Listed) (at : Listed) (pc : ℕ) (r : Option ℕ) →
 does_fall xs at pc r falls same found to =
     let Q : ℕ → Type 0 = λ n. IsPlaceOf xs n to in
     ((λ e. (falls, subst Q same ((found to).0 e))), (λ f. (found to).1 (subst Q (sym same) f.1)))
+
+pub jumps_there : (at : Listed) (pc : ℕ) → Some pc ≡ target_of at → Successor at.pc at.instr (pos pc)
+jumps_there at pc is = let t = target_from at (jump_of at.instr) pc refl (sym is) in jumps t.0 t.1 t.2

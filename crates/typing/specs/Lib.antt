@@ -7,6 +7,7 @@ pub mod Faults
 pub mod Summaries
 pub mod Describing
 pub mod Paths
+pub mod Ranks
 pub mod Levels
 pub mod Listings
 pub mod Typing

@@ -1,6 +1,8 @@
 //! What is kept of the states of all paths that come to one place.
 
-ghost use Rattle.std.specs.Prelude.{IfOk, ◌≡◌, true, Some};
+ghost use Rattle.std.specs.Prelude.{IfOk, ◌≡◌, true, false, ℕ, Some};
+ghost use Rattle.typing.specs.Joining.{count_at};
+ghost use Rattle.typing.specs.Ranks.{Differs, Sinks};
 ghost use Rattle.typing.specs.Summaries.{summary_of, SummarizesEntry, JoinsSummaries, IsSameSummary, Merges};
 
 use crate::maps::{
@@ -43,7 +45,8 @@ impl Joined {
 
     /// What is kept of the paths of two kinds, where it is not the same as of the first.
     fn merged(&self, alloc: Global, other: &Joined) -> Result<Option<Joined>, AllocError>
-        ensures { IfOk result (Merges (Some self.now) (summary_of other.now)) }
+        ensures merges { IfOk result (Merges (Some self.now) (summary_of other.now)) }
+        ensures sinks { IfOk result (Sinks (Some self.now)) }
     {
         let joined = self.joined(alloc, other)?;
         if joined.is_same(alloc, self)? {
@@ -66,21 +69,43 @@ impl Joined {
         })
     }
 
-    /// Whether both say the same.
-    pub fn is_same(&self, alloc: Global, other: &Joined) -> Result<bool, AllocError>
-        ensures { IfOk result (λ yes_or_no. yes_or_no ≡ true → IsSameSummary (summary_of self.now) (summary_of other.now)) }
+    /// Whether both say the same of the stack.
+    fn has_same_stack(&self, other: &Joined) -> bool
+        ensures same { result ≡ true → (self.now.stack ≡ other.now.stack) × (self.now.stacks_differ ≡ other.now.stacks_differ) }
+        ensures differs { result ≡ false → Differs (summary_of self.now) (summary_of other.now) }
     {
-        let same_stack = self.stack.is_same(&other.stack)
-            && self.stacks_differ == other.stacks_differ;
-        let same_held = are_same_held(alloc, &self.held, &other.held)?
-            && self.held_differs == other.held_differs;
-        let same_threads = are_same_threads(alloc, &self.threads, &other.threads)?;
-        Ok(
-            are_same_locals(alloc, &self.locals, &other.locals)?
-                && same_stack
-                && same_held
-                && same_threads,
-        )
+        if !self.stack.is_same(&other.stack) {
+            return false;
+        }
+        self.stacks_differ == other.stacks_differ
+    }
+
+    /// Whether both say the same of the monitors.
+    fn holds_same(&self, alloc: Global, other: &Joined) -> Result<bool, AllocError>
+        ensures same { IfOk result (λ yes_or_no. yes_or_no ≡ true → ((q : ℕ) → count_at self.now.held q ≡ count_at other.now.held q) × (self.now.held_differs ≡ other.now.held_differs)) }
+        ensures differs { IfOk result (λ yes_or_no. yes_or_no ≡ false → Differs (summary_of self.now) (summary_of other.now)) }
+    {
+        if !are_same_held(alloc, &self.held, &other.held)? {
+            return Ok(false);
+        }
+        Ok(self.held_differs == other.held_differs)
+    }
+
+    /// Whether both say the same.
+    fn is_same(&self, alloc: Global, other: &Joined) -> Result<bool, AllocError>
+        ensures same { IfOk result (λ yes_or_no. yes_or_no ≡ true → IsSameSummary (summary_of self.now) (summary_of other.now)) }
+        ensures differs { IfOk result (λ yes_or_no. yes_or_no ≡ false → Differs (summary_of self.now) (summary_of other.now)) }
+    {
+        if !self.holds_same(alloc, other)? {
+            return Ok(false);
+        }
+        if !are_same_threads(alloc, &self.threads, &other.threads)? {
+            return Ok(false);
+        }
+        if !are_same_locals(alloc, &self.locals, &other.locals)? {
+            return Ok(false);
+        }
+        Ok(self.has_same_stack(other))
     }
 }
 
@@ -90,7 +115,8 @@ pub fn merged(
     old: &Option<Joined>,
     state: &Joined,
 ) -> Result<Option<Joined>, AllocError>
-    ensures { IfOk result (Merges old.now (summary_of state.now)) }
+    ensures merges { IfOk result (Merges old.now (summary_of state.now)) }
+    ensures sinks { IfOk result (Sinks old.now) }
 {
     match old {
         None => Ok(Some(state.copied(alloc)?)),

@@ -4,6 +4,7 @@ ghost use Rattle.std.specs.Prelude.{◌≡◌, ◌≢◌, ◌<◌, ◌≤◌, �
 ghost use Rattle.opcodes.specs.Listing.{IsByPc};
 ghost use Rattle.typing.specs.Levels.{DoesAt, IsAdvancing, ComesFrom, IsArrival, HasArrival, StepsTo, kept_at, Adds, IsFrom, Absorbs, IsDescribed, Landed};
 ghost use Rattle.typing.specs.Describing.{DescribesAt};
+ghost use Rattle.typing.specs.Ranks.{LeadsDown, IsLowered, states_rank};
 ghost use Rattle.std.specs.List.{list_any};
 ghost use Rattle.typing.specs.declared.untyped.UntypedMethod.{UntypedMethod};
 ghost use Rattle.typing.specs.Summaries.{summary_of};
@@ -146,6 +147,7 @@ fn absorb(
     ensures long { length states.new.items ≡ length states.old.items }
     ensures others { OnOk result ((q : ℕ) → q ≢ arrival.now.to → kept_at states.new.items q ≡ kept_at states.old.items q) }
     ensures here { IfOk result (Absorbs (kept_at states.old.items arrival.now.to) (kept_at states.new.items arrival.now.to) (summary_of arrival.now.state)) }
+    ensures down { IfOk result (λ is_changed. LeadsDown is_changed (states_rank states.old.items) (states_rank states.new.items)) }
 {
     match merged(alloc, &states[arrival.to], &arrival.state)? {
         Some(state) => {
@@ -160,6 +162,7 @@ fn absorb(
 fn note(changed: &mut Vec<usize>, place: usize, is_changed: bool) -> Result<(), AllocError>
     ensures unlisted { OnOk result ((q : ℕ) → list_any (nat_eq q) changed.new.items ≡ false → (list_any (nat_eq q) changed.old.items ≡ false) × (is_changed ≡ true → q ≢ place)) }
     ensures listed { OnOk result ((q : ℕ) → Contains changed.new.items q → Contains changed.old.items q ⊎ ((is_changed ≡ true) × (q ≡ place))) }
+    ensures some { OnOk result (0 < length changed.new.items → (0 < length changed.old.items) ⊎ (is_changed ≡ true)) }
 {
     if is_changed {
         changed.push(place)?;
@@ -178,6 +181,7 @@ pub fn absorb_all(
     ensures described { OnOk result ((m : UntypedMethod) (most : ℕ) → IsDescribed m most states.old.items arrivals.now → (q : ℕ) → DescribesAt (Landed m most arrivals.now (length arrivals.now) q) (kept_at states.new.items q)) }
     ensures same { IfOk result (λ v. (q : ℕ) → list_any (nat_eq q) v.items ≡ false → kept_at states.new.items q ≡ kept_at states.old.items q) }
     ensures changed { IfOk result (λ v. (q : ℕ) → Contains v.items q → (q < length states.old.items) × ((x : Joined) × (kept_at states.new.items q ≡ Some x))) }
+    ensures lowered { IfOk result (λ v. IsLowered v.items (states_rank states.old.items) (states_rank states.new.items)) }
 {
     let mut changed = Vec::new(alloc);
     for arrival in arrivals {

@@ -139,14 +139,16 @@ pub fn join_threads(alloc: Global, a: &Threads, b: &Threads) -> Result<Threads, 
 
 /// Whether the same is known of a local.
 fn is_same_local(a: &Locals, b: &Locals, slot: u32) -> bool
-    ensures { IsTrue result ↔ (local_at a.now slot ≡ local_at b.now slot) }
+    ensures same { IsTrue result ↔ (local_at a.now slot ≡ local_at b.now slot) }
+    ensures small { slot < 2 ^ 32 }
 {
     local_of(a, slot) == local_of(b, slot)
 }
 
 /// Whether a thread has come equally far.
 fn is_same_stage(a: &Threads, b: &Threads, thread: u32) -> bool
-    ensures { IsTrue result ↔ (stage_at a.now thread ≡ stage_at b.now thread) }
+    ensures same { IsTrue result ↔ (stage_at a.now thread ≡ stage_at b.now thread) }
+    ensures small { thread < 2 ^ 32 }
 {
     stage_of(a, thread) == stage_of(b, thread)
 }
@@ -161,7 +163,7 @@ fn is_same_count(a: &Held, b: &Held, monitor: u32) -> bool
 /// Whether the same is known of the locals of this list.
 fn agree_on_locals(listed: &[u32], a: &Locals, b: &Locals) -> bool
     ensures agrees { IsTrue result ↔ ((q : ℕ) → list_any (nat_eq q) listed.now ≡ true → local_at a.now q ≡ local_at b.now q) }
-    ensures differs { result ≡ false → (q : ℕ) × (local_at a.now q ≢ local_at b.now q) }
+    ensures differs { result ≡ false → (q : ℕ) × (q < 2 ^ 32) × (local_at a.now q ≢ local_at b.now q) }
 {
     for slot in listed {
         if !is_same_local(a, b, *slot) {
@@ -174,7 +176,7 @@ fn agree_on_locals(listed: &[u32], a: &Locals, b: &Locals) -> bool
 /// Whether the threads of this list have come equally far.
 fn agree_on_threads(listed: &[u32], a: &Threads, b: &Threads) -> bool
     ensures agrees { IsTrue result ↔ ((q : ℕ) → list_any (nat_eq q) listed.now ≡ true → stage_at a.now q ≡ stage_at b.now q) }
-    ensures differs { result ≡ false → (q : ℕ) × (stage_at a.now q ≢ stage_at b.now q) }
+    ensures differs { result ≡ false → (q : ℕ) × (q < 2 ^ 32) × (stage_at a.now q ≢ stage_at b.now q) }
 {
     for thread in listed {
         if !is_same_stage(a, b, *thread) {
@@ -200,7 +202,7 @@ fn agree_on_held(listed: &[u32], a: &Held, b: &Held) -> bool
 /// Whether the same is known of the locals.
 pub fn are_same_locals(alloc: Global, a: &Locals, b: &Locals) -> Result<bool, AllocError>
     ensures same { IfOk result (λ yes_or_no. IsTrue yes_or_no ↔ ((q : ℕ) → local_at a.now q ≡ local_at b.now q)) }
-    ensures differ { IfOk result (λ yes_or_no. yes_or_no ≡ false → (q : ℕ) × (local_at a.now q ≢ local_at b.now q)) }
+    ensures differ { IfOk result (λ yes_or_no. yes_or_no ≡ false → (q : ℕ) × (q < 2 ^ 32) × (local_at a.now q ≢ local_at b.now q)) }
 {
     let first = keys_of(alloc, a)?;
     let second = keys_of(alloc, b)?;
@@ -210,7 +212,7 @@ pub fn are_same_locals(alloc: Global, a: &Locals, b: &Locals) -> Result<bool, Al
 /// Whether the threads have come equally far.
 pub fn are_same_threads(alloc: Global, a: &Threads, b: &Threads) -> Result<bool, AllocError>
     ensures same { IfOk result (λ yes_or_no. IsTrue yes_or_no ↔ ((q : ℕ) → stage_at a.now q ≡ stage_at b.now q)) }
-    ensures differ { IfOk result (λ yes_or_no. yes_or_no ≡ false → (q : ℕ) × (stage_at a.now q ≢ stage_at b.now q)) }
+    ensures differ { IfOk result (λ yes_or_no. yes_or_no ≡ false → (q : ℕ) × (q < 2 ^ 32) × (stage_at a.now q ≢ stage_at b.now q)) }
 {
     let first = keys_of(alloc, a)?;
     let second = keys_of(alloc, b)?;

@@ -53,7 +53,7 @@ fn fall(listing: &[Listed], at: &Listed) -> Option<usize>
 }
 
 /// Where the jump of an instruction goes.
-fn target(at: &Listed) -> Option<u64>
+pub fn target(at: &Listed) -> Option<u64>
     ensures { result ≡ option_and_then (λ distance. natural_of (pos at.now.pc +ℤ distance)) (jump_of at.now.instr) }
 {
     let distance = at.instr.jump()?;

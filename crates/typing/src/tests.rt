@@ -1,15 +1,17 @@
 //! Small methods, built by hand.
 
 ghost use Rattle.std.specs.Prelude.{◌≡◌, length, pos, true};
-ghost use Rattle.typing.specs.Typing.{IsListed};
+ghost use Rattle.typing.specs.Typing.{IsListed, AllReached};
 
-use crate::output::typed_state;
-use crate::typing::joined_states;
 use crate::{Entry, Symbol, TypeKind, TypeRefusal, UntypedMethod, type_method};
 use opcodes::{Instr, Listing};
-use program::{Frame, HeldMonitor, Items, MethodId, TypedLocal, ValueType};
+use program::{Frame, HeldMonitor, Items, MethodId, TypedLocal, TypedState, ValueType};
 use std::alloc::Global;
 use std::test::Fail;
+
+mod reached;
+
+use reached::is_reached;
 
 const RETURN: (Instr, Symbol) = (Instr::Return, Symbol::Nothing);
 
@@ -79,18 +81,26 @@ fn method(
 fn is_fit(method: &UntypedMethod) -> bool
     ensures symbols { result ≡ true → length method.now.symbols ≡ length method.now.listing }
     ensures start { result ≡ true → IsListed method.now.listing (pos 0) }
+    ensures reached { result ≡ true → AllReached method.now.listing }
 {
     let listing = method.listing.as_slice();
-    method.symbols.len() == listing.len() && !listing.is_empty() && listing[0].pc == 0
+    method.symbols.len() == listing.len()
+        && !listing.is_empty()
+        && listing[0].pc == 0
+        && is_reached(listing)
+}
+
+/// The typed states of a method.
+fn types(alloc: Global, method: &UntypedMethod) -> Result<Items<TypedState>, TypeRefusal> {
+    if !is_fit(method) {
+        return Err(TypeRefusal::Memory);
+    }
+    type_method(alloc, method)
 }
 
 /// The refusal of a method, if any.
 fn refusal(alloc: Global, method: &UntypedMethod) -> Option<TypeRefusal> {
-    if !is_fit(method) {
-        return Some(TypeRefusal::Memory);
-    }
-    let _by_pc = method.listing.as_slice();
-    match joined_states(alloc, method) {
+    match types(alloc, method) {
         Ok(_) => None,
         Err(refusal) => Some(refusal),
     }
@@ -233,7 +243,7 @@ fn threads(rt: HostRuntime) -> Result<(), Fail> {
 #[test]
 fn paths_that_meet(rt: HostRuntime) -> Result<(), Fail> {
     let branch = plain(Instr::Ifeq { distance: 4 });
-    let cases: [(&[(Instr, Symbol)], Option<TypeRefusal>); 6] = [
+    let cases: [(&[(Instr, Symbol)], Option<TypeRefusal>); 8] = [
         // A local has a type on one path alone, and is loaded or not.
         (
             &[ONE, branch, ONE, plain(Instr::Istore0), RETURN],
@@ -265,6 +275,23 @@ fn paths_that_meet(rt: HostRuntime) -> Result<(), Fail> {
             &[ONE, branch, ONE, RETURN],
             refused(TypeKind::TypeMisfit, 5),
         ),
+        // The same, and the paths have not the same number of steps.
+        (
+            &[
+                ONE,
+                plain(Instr::Ifeq { distance: 6 }),
+                ONE,
+                plain(Instr::Nop),
+                plain(Instr::Nop),
+                RETURN,
+            ],
+            refused(TypeKind::TypeMisfit, 7),
+        ),
+        // The stacks of two turns of a loop differ.
+        (
+            &[ONE, plain(Instr::Goto { distance: -1 })],
+            refused(TypeKind::TypeMisfit, 0),
+        ),
         // The monitors of two paths differ where they meet.
         (
             &[
@@ -287,41 +314,107 @@ fn paths_that_meet(rt: HostRuntime) -> Result<(), Fail> {
     Ok(())
 }
 
+/// What is known of a frame: its locals, its stack with the lowest first, and its monitors.
+type State = (
+    &'static [TypedLocal],
+    &'static [ValueType],
+    &'static [HeldMonitor],
+);
+
+const ARGS: TypedLocal = TypedLocal {
+    slot: 0,
+    holds: ValueType::Args,
+};
+
+const INT: TypedLocal = TypedLocal {
+    slot: 1,
+    holds: ValueType::Int,
+};
+
+const HELD: HeldMonitor = HeldMonitor {
+    monitor: 5,
+    count: 1,
+};
+
 #[test]
 fn states(rt: HostRuntime) -> Result<(), Fail> {
-    let code = [
-        ONE,
-        plain(Instr::Istore1),
-        CLASS,
-        ENTER,
-        ONE,
-        CLASS,
-        LEAVE,
-        plain(Instr::Pop),
-        RETURN,
-    ];
-    let method = method(rt.alloc(), Entry::Main, frame(2, 2, 1, false), &code)?;
-    assert!(rt; is_fit(&method));
-    let _by_pc = method.listing.as_slice();
-    let joined = joined_states(rt.alloc(), &method)?;
-    let Some(Some(last)) = joined.get(5) else {
-        return Ok(());
-    };
-    let state = typed_state(rt.alloc(), last)?;
-    let args = TypedLocal {
-        slot: 0,
-        holds: ValueType::Args,
-    };
-    let int = TypedLocal {
-        slot: 1,
-        holds: ValueType::Int,
-    };
-    let held = HeldMonitor {
-        monitor: 5,
-        count: 1,
-    };
-    assert_eq!(rt; state.locals.as_slice(), [args, int].as_slice());
-    assert_eq!(rt; state.stack.as_slice(), [ValueType::Int].as_slice());
-    assert_eq!(rt; state.held.as_slice(), [held].as_slice());
+    let held: (&[(Instr, Symbol)], &[State]) = (
+        &[
+            ONE,
+            plain(Instr::Istore1),
+            CLASS,
+            ENTER,
+            ONE,
+            CLASS,
+            LEAVE,
+            plain(Instr::Pop),
+            RETURN,
+        ],
+        &[
+            (&[ARGS], &[], &[]),
+            (&[ARGS], &[ValueType::Int], &[]),
+            (&[ARGS, INT], &[], &[]),
+            (&[ARGS, INT], &[ValueType::Lock(5)], &[]),
+            (&[ARGS, INT], &[], &[HELD]),
+            (&[ARGS, INT], &[ValueType::Int], &[HELD]),
+            (&[ARGS, INT], &[ValueType::Int, ValueType::Lock(5)], &[HELD]),
+            (&[ARGS, INT], &[ValueType::Int], &[]),
+            (&[ARGS, INT], &[], &[]),
+        ],
+    );
+    // Counts down to 0.
+    let counting: (&[(Instr, Symbol)], &[State]) = (
+        &[
+            ONE,
+            plain(Instr::Istore1),
+            plain(Instr::Iload1),
+            plain(Instr::Ifeq { distance: 9 }),
+            plain(Instr::Iinc { slot: 1, delta: -1 }),
+            plain(Instr::Goto { distance: -7 }),
+            RETURN,
+        ],
+        &[
+            (&[ARGS], &[], &[]),
+            (&[ARGS], &[ValueType::Int], &[]),
+            (&[ARGS, INT], &[], &[]),
+            (&[ARGS, INT], &[ValueType::Int], &[]),
+            (&[ARGS, INT], &[], &[]),
+            (&[ARGS, INT], &[], &[]),
+            (&[ARGS, INT], &[], &[]),
+        ],
+    );
+    // An int or a class object in a local that is never loaded.
+    let two_types: (&[(Instr, Symbol)], &[State]) = (
+        &[
+            ONE,
+            plain(Instr::Ifeq { distance: 8 }),
+            ONE,
+            plain(Instr::Istore1),
+            plain(Instr::Goto { distance: 6 }),
+            CLASS,
+            plain(Instr::Astore1),
+            RETURN,
+        ],
+        &[
+            (&[ARGS], &[], &[]),
+            (&[ARGS], &[ValueType::Int], &[]),
+            (&[ARGS], &[], &[]),
+            (&[ARGS], &[ValueType::Int], &[]),
+            (&[ARGS, INT], &[], &[]),
+            (&[ARGS], &[], &[]),
+            (&[ARGS], &[ValueType::Lock(5)], &[]),
+            (&[ARGS], &[], &[]),
+        ],
+    );
+    for (code, want) in [held, counting, two_types] {
+        let method = method(rt.alloc(), Entry::Main, frame(2, 2, 1, false), code)?;
+        let typed = types(rt.alloc(), &method)?;
+        assert_eq!(rt; typed.len(), want.len());
+        for (state, (locals, stack, held)) in typed.as_slice().iter().zip(want) {
+            assert_eq!(rt; state.locals.as_slice(), *locals);
+            assert_eq!(rt; state.stack.as_slice(), *stack);
+            assert_eq!(rt; state.held.as_slice(), *held);
+        }
+    }
     Ok(())
 }

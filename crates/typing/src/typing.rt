@@ -4,6 +4,7 @@ ghost use Rattle.std.specs.Prelude.{◌≡◌, ◌<◌, ◌≤◌, ◌++◌, [],
 ghost use Rattle.opcodes.specs.Listing.{IsByPc};
 ghost use Rattle.typing.specs.Levels.{IsLevel, IsBegun, IsEntryKind, kept_at};
 ghost use Rattle.typing.specs.Listings.{IsTold, IsToldOf};
+ghost use Rattle.typing.specs.Ranks.{IsLowered, states_rank};
 ghost use Rattle.typing.specs.Summaries.{summary_of};
 ghost use Rattle.typing.specs.Paths.{PastEntry};
 ghost use Rattle.typing.specs.Typing.{IsListed, AllReached, IsRefused, IsTyping};
@@ -88,6 +89,7 @@ fn go_on(
     requires level { (most : ℕ) × IsLevel method.now most states.old.items changed.now }
     ensures ok { IfOk result (λ v. (most : ℕ) × IsLevel method.now most states.new.items v.items) }
     ensures err { IfErr result (IsRefused method.now) }
+    ensures lowered { IfOk result (λ v. IsLowered v.items (states_rank states.old.items) (states_rank states.new.items)) }
 {
     let Ok(arrivals) = arrivals(alloc, method, states, changed) else {
         return Err(TypeRefusal::Memory);
@@ -101,11 +103,9 @@ fn go_on(
     }
 }
 
-/// What is kept at each place of the listing of all paths.
-pub fn joined_states(
-    alloc: Global,
-    method: &UntypedMethod,
-) -> Result<Vec<Option<Joined>>, TypeRefusal>
+/// What is kept at each place of the listing of all paths. Each level that changes a place lowers a rank, so the last one
+/// comes.
+fn joined_states(alloc: Global, method: &UntypedMethod) -> Result<Vec<Option<Joined>>, TypeRefusal>
     requires symbols { length method.now.symbols ≡ length method.now.listing }
     requires by_pc { IsByPc method.now.listing }
     requires start { IsListed method.now.listing (pos 0) }
@@ -116,13 +116,10 @@ pub fn joined_states(
     let Ok(mut changed) = vec![in alloc; 0usize; 1] else {
         return Err(TypeRefusal::Memory);
     };
-    for level in 0..u64::MAX {
-        if changed.is_empty() {
-            return Ok(states);
-        }
+    'levels: while !changed.is_empty() {
         changed = go_on(alloc, method, &mut states, &changed)?;
     }
-    Err(TypeRefusal::Memory)
+    Ok(states)
 }
 
 /// The typed state of a place.

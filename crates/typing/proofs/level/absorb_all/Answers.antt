@@ -5,6 +5,7 @@ use Rattle.typing.specs.Describing.{DescribesAt}
 use Rattle.typing.specs.Levels.{Landed, kept_at}
 use Rattle.typing.specs.declared.level.Arrival.{Arrival}
 use Rattle.typing.proofs.Landing.{one_landed, first_landed, some_kept, changed_kept, unchanged_kept}
+use Rattle.typing.proofs.Ranks.{lowered_more}
 use Rattle.typing.proofs.level.absorb_all.Goals as goal
 
 pub loop-arrival-init : goal.loop-arrival-init
@@ -13,6 +14,7 @@ loop-arrival-init c = record {
   described = λ m most d q. first_landed m most c.args.arrivals.now q _ (d.places q);
   same = λ q h. refl;
   changed = λ q h. absurd (let lt : 0 < 0 = omega (arith, h.1, ap length c.new-changed.ensures.items) in omega arith);
+  lowered = record { most = omega arith; sinks = λ some. absurd (let lt : 0 < 0 = omega (arith, some, ap length c.new-changed.ensures.items) in omega arith) };
 }
 
 pub loop-arrival-preserved : goal.loop-arrival-preserved
@@ -37,6 +39,7 @@ loop-arrival-preserved c =
           changed_kept q b.to old new _ c.in_ok-is_changed.is_changed here now.0 now.1,
         ))
       ];
+      lowered = lowered_more c.in_ok-is_changed.is_changed c.loop-arrival.changed.items _ _ _ _ c.loop-arrival.invariant.lowered c.in_ok-is_changed.ensures.down c.in_ok-note.ensures.some;
     }
 
 pub returns-clause-described : goal.returns-clause-described

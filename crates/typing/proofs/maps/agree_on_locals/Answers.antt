@@ -10,14 +10,14 @@ loop-slot-preserved c = λ q h.
     let P : ℕ → Type 0 = λ n. local_at c.args.a.now n ≡ local_at c.args.b.now n in
     elim (listed_more q xs c.loop-slot.slot-index lt h) [
       | inl before ↦ c.loop-slot.invariant q before
-      | inr same ↦ subst P (sym same) (c.if-not-is_same_local.ensures.0 refl)
+      | inr same ↦ subst P (sym same) (c.if-not-is_same_local.ensures.same.0 refl)
     ]
 
 pub returns-then-not-is_same_local-clause-agrees : goal.returns-then-not-is_same_local-clause-agrees
 returns-then-not-is_same_local-clause-agrees c =
     let xs = c.args.listed.now in
     let lt : c.loop-slot.slot-index < length xs = omega arith in
-    (λ wrong. absurd (false-true wrong), λ all. c.if-not-is_same_local.ensures.1 (all _ (listed_there xs c.loop-slot.slot-index lt)))
+    (λ wrong. absurd (false-true wrong), λ all. c.if-not-is_same_local.ensures.same.1 (all _ (listed_there xs c.loop-slot.slot-index lt)))
 
 pub returns-then-not-is_same_local-clause-differs : goal.returns-then-not-is_same_local-clause-differs
-returns-then-not-is_same_local-clause-differs c = λ _. (_, λ e. false-true (c.if-not-is_same_local.ensures.1 e))
+returns-then-not-is_same_local-clause-differs c = λ _. (_, c.is_same_local.ensures.small, λ e. false-true (c.if-not-is_same_local.ensures.same.1 e))
