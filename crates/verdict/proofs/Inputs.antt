@@ -11,6 +11,7 @@ use Rattle.linking.specs.Laws.{OneProgram, ProgramOrRefusal}
 use Rattle.linking.specs.Linking.{IsProgramOf}
 use Rattle.linking.specs.Refusals.{IsRefusedFor}
 use Rattle.linking.specs.declared.refusal.ProgramRefusal.{ProgramRefusal}
+use Rattle.linking.specs.declared.refusal.ProgramRefusal.TheVariants as program
 use Rattle.program.specs.Program.{Prog}
 use Rattle.verdict.specs.Answers.{IsLimited, by_bytes, by_limit, LinksWell, RefusesFormat, RefusesProgram, TellsFile}
 use Rattle.verdict.specs.Commands.{NamesClasses}
@@ -86,4 +87,4 @@ module _ (words : List (List ℕ)) (old : Contents) (from : ℕ) (linked : Linke
 
     pub not_limited : OneRecord → ProgramOrRefusal → IsLimited words old held_old held_new → ⊥
     not_limited one law (by_bytes r) = not_long r.word (subst (λ (f : ℕ). IsTooLong words old f r.word) (only r.from r.names) r.too_long)
-    not_limited one law (by_limit r) = no_refusal one law _ (subst (λ (f : ℕ). IsUnlinked words old f _) (only r.from r.names) r.unlinked)
+    not_limited one law (by_limit r) = no_refusal one law (program.Limit r.kind) (subst (λ (f : ℕ). IsUnlinked words old f (program.Limit r.kind)) (only r.from r.names) r.unlinked)

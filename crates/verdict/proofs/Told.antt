@@ -92,6 +92,11 @@ module _ (words : List (List ℕ)) (old new : Contents) (r s w x p q : ℕ) (hel
   tells found result is why (whole status grows) = subst Tells (sym status) (by_found found is why grows)
   tells found result is why (failed status rose) = subst Tells (sym status) (inr rose)
 
+  -- the same of a known status
+  pub tells_of : (status : Status) (found : Result Answer Stop) (result : Status) → IfOk found (IsAnswer words old new) → IfErr found (IsStopped words old r s w x) →
+      PutsText (text_of found) (status_of found) result held now p q → result ≡ status → Tells status
+  tells_of status found result is why puts same = subst Tells same (tells found result is why puts)
+
   -- ---- Where all goes well
 
   no_decide_refusal : OneRecord → TextOrFault → OneProgram → ProgramOrRefusal → DecideGoesWell words old r s w x p q → IsRefused words old held now → ⊥
