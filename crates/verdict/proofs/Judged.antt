@@ -20,7 +20,7 @@ use Rattle.straight_sequence.specs.Defaults.{AreDefaultsInOrder}
 use Rattle.straight_sequence.specs.Steps.{IsSequenceOf}
 use Rattle.straight_trace.specs.Within.{TellsPrinted}
 use Rattle.verdict.specs.Judging.{IsShown, NamesMain, ShowsOutcome}
-use Rattle.verdict.specs.declared.question.Question.{Question}
+use Rattle.verdict.specs.declared.request.Question.{Question}
 
 module _ (p : Prog) (h : IsStraight p) (q : Question) (run : StraightRun) (is : IsRunOf p run) where
   -- an outcome that the run does not show is forbidden

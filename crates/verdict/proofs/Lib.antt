@@ -1,4 +1,4 @@
-pub mod ClassFiles
+pub mod Commands
+pub mod Inputs
 pub mod Judged
-pub mod Stopped
-pub mod Answered
+pub mod Told

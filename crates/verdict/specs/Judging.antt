@@ -6,14 +6,17 @@ use Rattle.program.specs.Program.{Prog}
 use Rattle.action_orders.specs.Execution.{Exec}
 use Rattle.action_orders.specs.Verdict.{JustifiesWithin, IsPossibleWithin}
 use Rattle.action_orders.specs.declared.sequence.SequenceStep.{SequenceStep}
+use Rattle.class_files.specs.Input.{Contents, IsLinked}
+use Rattle.class_files.specs.declared.linked.Linked.{Linked}
 use Rattle.ports.specs.Growth.{IsTold, SameContents}
 use Rattle.sequence_text.specs.SequenceText.{sequence_text}
 use Rattle.java_int.specs.JavaInt.{Fits}
 use Rattle.straight.specs.declared.run.StraightRun.{StraightRun}
-use Rattle.verdict.specs.declared.question.Question.{Question}
+use Rattle.straight_check.specs.StraightProgram.{IsStraightProgram}
+use Rattle.verdict.specs.declared.request.Question.{Question}
 use Rattle.verdict.specs.declared.stop.Stop.{Stop}
 use Rattle.verdict.specs.declared.stop.Stop.TheVariants.{WriteFault}
-use Rattle.verdict.specs.ClassFile.{IsProgramFile, IsStraightFile}
+use Rattle.verdict.specs.Commands.{decide_classes}
 
 -- each thread that the outcome names is main, with these values
 abbrev pub NamesMain : List OutcomePart → List ℤ → Type 0
@@ -37,16 +40,16 @@ abbrev pub IsJudged : Prog → Question → Bool → Option (List ℕ) → Type 
 IsJudged p q true content = IsShown p q content
 IsJudged p q false content = IsPossibleWithin p q.outcome q.bounds → ⊥
 
--- the answer to a question on the bytes of a straight class, with the content of SEQ
-pub record IsDecided (q : Question) (bytes : List ℕ) (allowed whole : Bool) (content : Option (List ℕ)) : Type 0 where
-  pub straight : IsStraightFile bytes
-  pub program : Prog
-  pub is_program : IsProgramFile bytes program
-  pub whole_is : IsTrue whole ↔ IsWhole program q.bounds.jumps q.bounds.width
-  pub judged : IsJudged program q allowed content
+-- the answer to a question on the class files that the words name, whose program is straight, with the content of SEQ
+pub record IsDecided (words : List (List ℕ)) (q : Question) (old : Contents) (allowed whole : Bool) (content : Option (List ℕ)) : Type 0 where
+  pub linked : Linked
+  pub is_linked : IsLinked words old decide_classes linked
+  pub straight : IsStraightProgram linked.program
+  pub whole_is : IsTrue whole ↔ IsWhole linked.program q.bounds.jumps q.bounds.width
+  pub judged : IsJudged linked.program q allowed content
 
 -- no file has changed, but where the outcome is allowed or writing failed
-abbrev pub Untouched : Result Bool Stop → (List ℕ → Option (List ℕ)) → (List ℕ → Option (List ℕ)) → Type 0
+abbrev pub Untouched : Result Bool Stop → Contents → Contents → Type 0
 Untouched (Ok true) old new = ⊤
 Untouched (Err WriteFault) old new = ⊤
 Untouched result old new = SameContents old new

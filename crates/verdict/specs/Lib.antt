@@ -1,9 +1,9 @@
 pub mod Answers
-pub mod ClassFile
+pub mod Commands
 pub mod Judging
+pub mod KindNames
 pub mod OutputText
 pub mod Pieces
-pub mod Question
 pub mod Reports
 pub mod Stops
 pub mod Verdicts

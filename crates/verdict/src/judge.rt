@@ -11,7 +11,7 @@ ghost use Rattle.straight_sequence.specs.Steps.{IsSequenceOf};
 ghost use Rattle.verdict.specs.Judging.{IsJudged, NamesMain, ShowsOutcome, Untouched};
 ghost use Rattle.verdict.specs.Stops.{IsUnwritten};
 
-use crate::question::Question;
+use crate::request::Question;
 use crate::stop::Stop;
 use action_orders::{Execution, Sequence};
 use line_text::Values;

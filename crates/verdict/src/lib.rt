@@ -1,18 +1,20 @@
-//! The top call: what the words ask of the class file, and the answer with its certificate (docs/TEXTS.md, "Command lines" and
-//! "Output"). So far it is built for `decide` on one straight class.
+//! The top call: what the words ask of the class files, and the answer with its certificate (docs/TEXTS.md, "Command lines" and
+//! "Output"). So far `show` is built, and `decide` for straight programs.
 #![tactic(auto)]
 
-mod class_file;
+mod answer;
 mod decide;
+mod input;
 mod judge;
-mod output;
-mod question;
+mod kind_names;
+mod lines;
+mod pieces;
+mod request;
 mod status;
 mod stop;
 #[cfg(test)]
 mod tests;
 mod top_call;
-mod whole_file;
 
 pub use status::Status;
 pub use top_call::run;

@@ -10,9 +10,15 @@ pub enum Status {
     Allowed,
     /// The outcome is forbidden: no execution with a committing sequence shows it within the bounds.
     Forbidden,
-    /// The question was refused.
+    /// The program was listed.
+    Shown,
+    /// The words are no command line.
+    Usage,
+    /// The class files make no program, or what is asked is not built.
     Refused,
-    /// A file could not be read.
+    /// A limit is passed.
+    Limit,
+    /// A class file could not be read.
     ReadFault,
     /// SEQ or the output could not be written.
     WriteFault,
@@ -28,7 +34,10 @@ impl Status {
         match self {
             Status::Allowed => 0,
             Status::Forbidden => 1,
+            Status::Shown => 0,
+            Status::Usage => 4,
             Status::Refused => 5,
+            Status::Limit => 6,
             Status::ReadFault => 7,
             Status::WriteFault => 8,
             Status::Memory => 9,

@@ -1,4 +1,4 @@
-//! Straight programs with their verdicts, and files that fail.
+//! Programs with their verdicts and listings, refusals, and files and outputs that fail.
 
 use crate::{Status, run};
 use line_text::Words;
@@ -7,6 +7,8 @@ use std::alloc::Global;
 use std::test::Fail;
 
 mod classes;
+mod failures;
+mod refusals;
 mod rows;
 
 use classes::{EXAMPLE, class_of};
@@ -20,25 +22,42 @@ struct Answer {
     files: MemoryFiles,
 }
 
-/// The words of a `decide` with this width and this outcome.
-fn words_of(alloc: Global, width: &str, outcome: &str) -> Result<Words, Fail> {
-    let mut words = Words::new(alloc);
-    for word in [
-        "decide", "4", width, "100000", outcome, "seq", "ref", "M.class",
-    ] {
-        words.push(word)?;
-    }
-    Ok(words)
+/// What a command finds: files by name, and the numbers of the calls on them and of the puts to the output that fail.
+#[derive(Drop)]
+struct World {
+    files: MemoryFiles,
+    out: MemorySink,
 }
 
-/// The answer to these words, where M.class has these bytes and these calls on files fail.
-fn ask(alloc: Global, words: &Words, class: &[u8], failing: Vec<u64>) -> Result<Answer, Fail> {
+/// A world with a file `seq` and this class file.
+fn world_of(
+    alloc: Global,
+    class: &[u8],
+    failing: Vec<u64>,
+    failing_puts: Vec<u64>,
+) -> Result<World, Fail> {
     let mut files = MemoryFiles::open(alloc, 4096, failing)?;
     files.insert("M.class", class)?;
     files.insert("seq", b"before")?;
-    let mut out = MemorySink::open(alloc, 1024, Vec::new(alloc))?;
-    let status = run(alloc, words, &mut files, &mut out);
+    let out = MemorySink::open(alloc, 4096, failing_puts)?;
+    Ok(World { files, out })
+}
+
+/// What these words come to there.
+fn run_in(alloc: Global, texts: &[&str], world: World) -> Result<Answer, Fail> {
+    let mut words = Words::new(alloc);
+    for text in texts {
+        words.push(text)?;
+    }
+    let World { mut files, mut out } = world;
+    let status = run(alloc, &words, &mut files, &mut out);
     Ok(Answer { status, out, files })
+}
+
+/// What these words come to with this class file, where nothing fails.
+fn ask(alloc: Global, texts: &[&str], class: &[u8]) -> Result<Answer, Fail> {
+    let world = world_of(alloc, class, Vec::new(alloc), Vec::new(alloc))?;
+    run_in(alloc, texts, world)
 }
 
 // Each row's verdict; SEQ is written anew where the outcome is allowed, and else left alone.
@@ -46,8 +65,10 @@ fn ask(alloc: Global, words: &Words, class: &[u8], failing: Vec<u64>) -> Result<
 fn verdicts(rt: HostRuntime) -> Result<(), Fail> {
     for row in &ROWS {
         let class = class_of(rt.alloc(), row.code)?;
-        let words = words_of(rt.alloc(), row.width, row.outcome)?;
-        let answer = ask(rt.alloc(), &words, class.as_slice(), Vec::new(rt.alloc()))?;
+        let words = [
+            "decide", "4", row.width, "100000", row.outcome, "seq", "ref", "M.class",
+        ];
+        let answer = ask(rt.alloc(), &words, class.as_slice())?;
         let status = if row.allowed {
             Status::Allowed
         } else {
@@ -82,7 +103,7 @@ end
 // The lines of the output, and a whole SEQ.
 #[test]
 fn texts(rt: HostRuntime) -> Result<(), Fail> {
-    let lines: [(&str, &str, &str); 4] = [
+    let lines: [(&str, &str, &str); 3] = [
         (
             "32",
             "0=5",
@@ -98,78 +119,54 @@ fn texts(rt: HostRuntime) -> Result<(), Fail> {
             "0=5",
             "verdict allowed\nbounds jumps 4 width 8 whole no\nbudget 100000\n",
         ),
-        ("33", "0=5", "refused not-built\n"),
     ];
     for (width, outcome, text) in lines {
-        let words = words_of(rt.alloc(), width, outcome)?;
-        let answer = ask(rt.alloc(), &words, &EXAMPLE, Vec::new(rt.alloc()))?;
+        let words = [
+            "decide", "4", width, "100000", outcome, "seq", "ref", "M.class",
+        ];
+        let answer = ask(rt.alloc(), &words, &EXAMPLE)?;
         assert_eq!(rt; answer.out.bytes(), text.as_bytes());
     }
     let print = [0xb2, 0, 14, 0x06, 0xb6, 0, 20, 0xb1];
     let class = class_of(rt.alloc(), &print)?;
-    let words = words_of(rt.alloc(), "32", "0=3")?;
-    let answer = ask(rt.alloc(), &words, class.as_slice(), Vec::new(rt.alloc()))?;
+    let words = [
+        "decide", "4", "32", "100000", "0=3", "seq", "ref", "M.class",
+    ];
+    let answer = ask(rt.alloc(), &words, class.as_slice())?;
     assert_eq!(rt; answer.files.content("seq"), Some(PRINTS_ONCE.as_bytes()));
     Ok(())
 }
 
-/// Whether this comes of it where one call on the files fails.
-fn fails_at(alloc: Global, call: u64, status: Status, text: &str, seq: &str) -> Result<bool, Fail> {
-    let words = words_of(alloc, "32", "0=5")?;
-    let failing = vec![in alloc; call]?;
-    let answer = ask(alloc, &words, &EXAMPLE, failing)?;
-    Ok(
-        answer.status == status
-            && answer.out.bytes() == text.as_bytes()
-            && answer.files.content("seq") == Some(seq.as_bytes()),
-    )
-}
+/// The listing of the example.
+const LISTING: &str = "threads 1 variables 1 monitors 0
+variable M.x plain
+thread 0 M.main([Ljava/lang/String;)V
+method M.main([Ljava/lang/String;)V
+0 iconst_5
+1 putstatic M.x
+4 getstatic java/lang/System.out
+7 getstatic M.x
+10 invokevirtual java/io/PrintStream.println(I)V
+13 return
+";
 
-// The first call reads the class, the second finds its end, the third starts SEQ, and the others append to it.
+// `show` lists, and writes no file. It also lists a program that is not straight: main jumps.
 #[test]
-fn failing_files(rt: HostRuntime) -> Result<(), Fail> {
-    let read_fault = "read-fault word 7\n";
-    assert!(rt; fails_at(rt.alloc(), 0, Status::ReadFault, read_fault, "before")?);
-    assert!(rt; fails_at(rt.alloc(), 1, Status::ReadFault, read_fault, "before")?);
-    assert!(rt; fails_at(rt.alloc(), 2, Status::WriteFault, "", "before")?);
-    assert!(rt; fails_at(rt.alloc(), 3, Status::WriteFault, "", "")?);
-    let front = "jmm-sequence 1\nexecution\n";
-    assert!(rt; fails_at(rt.alloc(), 4, Status::WriteFault, "", front)?);
-    Ok(())
-}
-
-/// Whether the class file is refused.
-fn is_refused(alloc: Global, class: &[u8]) -> Result<bool, Fail> {
-    let words = words_of(alloc, "32", "0=5")?;
-    let answer = ask(alloc, &words, class, Vec::new(alloc))?;
-    Ok(
-        answer.status == Status::Refused
-            && answer.out.bytes() == b"refused not-built\n".as_slice()
-            && answer.files.content("seq") == Some(b"before".as_slice()),
-    )
-}
-
-// A class file without its last byte, an empty one, a class that is not straight, and a file that is too long.
-#[test]
-fn refused(rt: HostRuntime) -> Result<(), Fail> {
-    assert!(rt; is_refused(rt.alloc(), &EXAMPLE[..271])?);
-    assert!(rt; is_refused(rt.alloc(), &[])?);
-    let pop = class_of(rt.alloc(), &[0x57, 0xb1])?;
-    assert!(rt; is_refused(rt.alloc(), pop.as_slice())?);
-    let long = vec![in rt.alloc(); 0u8; 1048577]?;
-    assert!(rt; is_refused(rt.alloc(), long.as_slice())?);
-    Ok(())
-}
-
-// Words are judged before any file is read: the first call would fail.
-#[test]
-fn words_first(rt: HostRuntime) -> Result<(), Fail> {
-    for outcome in ["0=5;", "", "8=1", "0=+5"] {
-        let words = words_of(rt.alloc(), "32", outcome)?;
-        let failing = vec![in rt.alloc(); 0u64]?;
-        let answer = ask(rt.alloc(), &words, &EXAMPLE, failing)?;
-        assert_eq!(rt; answer.status, Status::Refused);
-    }
+fn shows(rt: HostRuntime) -> Result<(), Fail> {
+    let answer = ask(rt.alloc(), &["show", "M.class"], &EXAMPLE)?;
+    assert_eq!(rt; answer.status, Status::Shown);
+    assert_eq!(rt; answer.out.bytes(), LISTING.as_bytes());
+    assert_eq!(rt; answer.files.content("seq"), Some(b"before".as_slice()));
+    let jumps = class_of(rt.alloc(), &[0xa7, 0, 3, 0xb1])?;
+    let answer = ask(rt.alloc(), &["show", "M.class"], jumps.as_slice())?;
+    assert_eq!(rt; answer.status, Status::Shown);
+    let listing = "threads 1 variables 0 monitors 0
+thread 0 M.main([Ljava/lang/String;)V
+method M.main([Ljava/lang/String;)V
+0 goto 3
+3 return
+";
+    assert_eq!(rt; answer.out.bytes(), listing.as_bytes());
     Ok(())
 }
 
@@ -178,7 +175,10 @@ fn numbers(rt: HostRuntime) -> Result<(), Fail> {
     for (status, number) in [
         (Status::Allowed, 0),
         (Status::Forbidden, 1),
+        (Status::Shown, 0),
+        (Status::Usage, 4),
         (Status::Refused, 5),
+        (Status::Limit, 6),
         (Status::ReadFault, 7),
         (Status::WriteFault, 8),
         (Status::Memory, 9),

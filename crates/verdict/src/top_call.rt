@@ -1,89 +1,114 @@
 //! The top call.
 
-ghost use Rattle.std.specs.Prelude.{◌≡◌, ◌⊎◌, true, false};
-ghost use Rattle.ports.specs.Faults.{Rose};
-ghost use Rattle.verdict.specs.Reports.{PutsParts, parts_of, status_of};
-ghost use Rattle.verdict.specs.Answers.{GoesWell, IsAnswered, IsNotBuilt, IsReadFault, IsVerdictOrMemory, LeavesFiles, PutsLine};
+ghost use Rattle.std.specs.Prelude.{◌≡◌, ◌⊎◌, [], true, false};
+ghost use Rattle.ports.specs.Faults.{HasCause, Rose};
+ghost use Rattle.ports.specs.Growth.{Grows, PutsAll};
+ghost use Rattle.verdict.specs.Answers.{DecideGoesWell, IsAnswered, IsLimited, IsListingOrMemory, IsReadFault, IsRefused, IsShown, IsUsage, IsVerdictOrMemory, LeavesFiles, ShowGoesWell};
+ghost use Rattle.verdict.specs.Reports.{PutsText, answer_text, status_of, status_of_answer, status_of_verdict, text_of};
 
-use crate::decide::{Verdict, decide};
-use crate::output::Part;
+use crate::answer::{Answer, find_answer};
+use crate::lines::{put_stop, put_verdict};
 use crate::status::Status;
-use crate::stop::Stop;
+use crate::stop::{Stop, status_of_stop};
 use line_text::Words;
 use ports::{Failed, Files, Sink};
-use sequence_text::put_each;
+use program_listing::put_listing;
 use std::alloc::Global;
 
-/// Puts parts of the output, and ends with a status.
-fn report<S: Sink>(out: &mut S, parts: &[Part], status: Status) -> Status
-    ensures put { PutsParts parts.now status result (S.held out.old) (S.held out.new) (S.faults out.old) (S.faults out.new) }
+/// Puts the text of an answer.
+fn put_answer<S: Sink>(out: &mut S, answer: &Answer) -> Result<(), Failed>
+    ensures bytes { PutsAll (S.held out.old) (S.held out.new) result (answer_text answer.now) }
+    ensures cause { HasCause (S.faults out.old) (S.faults out.new) result }
     ensures rest { S.same_rest out.old out.new }
 {
-    match put_each(out, parts) {
-        Ok(()) => status,
-        Err(Failed) => Status::WriteFault,
+    match answer {
+        Answer::Decided(verdict) => put_verdict(out, verdict),
+        Answer::Shown(linked) => put_listing(out, linked.classes.as_slice(), &linked.program),
+    }
+}
+
+/// Puts the text of an answer, or why there is none.
+fn put_text<S: Sink>(out: &mut S, found: &Result<Answer, Stop>) -> Result<(), Failed>
+    ensures bytes { PutsAll (S.held out.old) (S.held out.new) result (text_of found.now) }
+    ensures cause { HasCause (S.faults out.old) (S.faults out.new) result }
+    ensures rest { S.same_rest out.old out.new }
+{
+    match found {
+        Ok(answer) => put_answer(out, answer),
+        Err(stop) => put_stop(out, stop),
     }
 }
 
 /// The status of a verdict.
-fn status_of(verdict: &Verdict) -> Status
-    ensures { result ≡ status_of verdict.now.allowed }
+fn status_of_verdict(allowed: bool) -> Status
+    ensures { result ≡ status_of_verdict allowed }
 {
-    if verdict.allowed {
+    if allowed {
         Status::Allowed
     } else {
         Status::Forbidden
     }
 }
 
-/// Puts the lines of a verdict.
-fn report_verdict<S: Sink>(out: &mut S, verdict: &Verdict) -> Status
-    ensures put { PutsParts (parts_of verdict.now) (status_of verdict.now.allowed) result (S.held out.old) (S.held out.new) (S.faults out.old) (S.faults out.new) }
-    ensures rest { S.same_rest out.old out.new }
+/// The status of an answer.
+fn status_of_answer(answer: &Answer) -> Status
+    ensures { result ≡ status_of_answer answer.now }
 {
-    let parts = [
-        Part::Verdict {
-            allowed: verdict.allowed,
-        },
-        Part::Jumps {
-            jumps: verdict.bounds.jumps,
-        },
-        Part::Width {
-            width: verdict.bounds.width,
-        },
-        Part::Whole {
-            whole: verdict.whole,
-        },
-        Part::Budget {
-            budget: verdict.budget,
-        },
-    ];
-    report(out, &parts, status_of(verdict))
+    match answer {
+        Answer::Decided(verdict) => status_of_verdict(verdict.allowed),
+        Answer::Shown(_) => Status::Shown,
+    }
 }
 
-/// Does what the words say: so far `decide` on one straight class file. Word 0 is the command's name.
+/// The status of an answer, or of why there is none.
+fn status_of(found: &Result<Answer, Stop>) -> Status
+    ensures { result ≡ status_of found.now }
+{
+    match found {
+        Ok(answer) => status_of_answer(answer),
+        Err(stop) => status_of_stop(stop),
+    }
+}
+
+/// Puts what was found out, and answers how the command ended.
+fn report<S: Sink>(out: &mut S, found: &Result<Answer, Stop>) -> Status
+    ensures put { PutsText (text_of found.now) (status_of found.now) result (S.held out.old) (S.held out.new) (S.faults out.old) (S.faults out.new) }
+    ensures rest { S.same_rest out.old out.new }
+{
+    match put_text(out, found) {
+        Ok(()) => status_of(found),
+        Err(Failed) => Status::WriteFault,
+    }
+}
+
+/// Does what the words say: `show`, and so far `decide` on straight programs. Word 0 is the command's name.
 ///
 /// `Allowed` comes only after SEQ holds an execution that shows the outcome, with a sequence that commits it. `Forbidden` comes
-/// only where no execution with a committing sequence of any length shows the outcome within the bounds. `Refused` comes exactly
-/// where the words are not `decide` with one class file, or the class is not straight; the words are judged first. `ReadFault`
-/// and `WriteFault` come only where a count of faults rose, and want of memory at any time. No file changes but SEQ, and that
-/// only with `Allowed` and with `WriteFault`.
+/// only where no execution with a committing sequence of any length shows the outcome within the bounds. `Shown` comes only
+/// after the listing was put. `Usage` comes only where the words are no command line; they are judged before any file is read.
+/// `Refused` comes only where a class file is none, where the classes make no program, or where what is asked is not built;
+/// `Limit` only where a class file is too long or the program passes a limit. `ReadFault` and `WriteFault` come only where a
+/// count of faults rose, and want of memory at any time. No file changes but SEQ, and that only for `decide`, with `Allowed`
+/// and with `WriteFault`.
 pub fn run<F: Files, S: Sink>(alloc: Global, words: &Words, files: &mut F, out: &mut S) -> Status
     ensures allowed { result ≡ Status.Allowed → IsAnswered true words.now (F.content files.old) (F.content files.new) (S.held out.old) (S.held out.new) }
     ensures forbidden { result ≡ Status.Forbidden → IsAnswered false words.now (F.content files.old) (F.content files.new) (S.held out.old) (S.held out.new) }
-    ensures refused { result ≡ Status.Refused → IsNotBuilt words.now (F.content files.old) }
-    ensures read_fault { result ≡ Status.ReadFault → IsReadFault words.now (F.read_faults files.old) (F.read_faults files.new) }
+    ensures shown { result ≡ Status.Shown → IsShown words.now (F.content files.old) (S.held out.old) (S.held out.new) }
+    ensures usage { result ≡ Status.Usage → IsUsage words.now (S.held out.old) (S.held out.new) }
+    ensures refused { result ≡ Status.Refused → IsRefused words.now (F.content files.old) (S.held out.old) (S.held out.new) }
+    ensures limit { result ≡ Status.Limit → IsLimited words.now (F.content files.old) (S.held out.old) (S.held out.new) }
+    ensures read_fault { result ≡ Status.ReadFault → IsReadFault words.now (F.content files.old) (F.read_faults files.old) (F.read_faults files.new) (S.held out.old) (S.held out.new) }
     ensures write_fault { result ≡ Status.WriteFault → Rose (F.write_faults files.old) (F.write_faults files.new) ⊎ Rose (S.faults out.old) (S.faults out.new) }
-    ensures complete { GoesWell words.now (F.content files.old) (F.read_faults files.old) (F.read_faults files.new) (F.write_faults files.old) (F.write_faults files.new) (S.faults out.old) (S.faults out.new) → IsVerdictOrMemory result }
+    ensures memory { result ≡ Status.Memory → Grows (S.held out.old) (S.held out.new) [] }
+    ensures complete_decide { DecideGoesWell words.now (F.content files.old) (F.read_faults files.old) (F.read_faults files.new) (F.write_faults files.old) (F.write_faults files.new) (S.faults out.old) (S.faults out.new) → IsVerdictOrMemory result }
+    ensures complete_show { ShowGoesWell words.now (F.content files.old) (F.read_faults files.old) (F.read_faults files.new) (F.write_faults files.old) (F.write_faults files.new) (S.faults out.old) (S.faults out.new) → IsListingOrMemory result }
     ensures files { LeavesFiles result words.now (F.content files.old) (F.content files.new) }
-    ensures line { PutsLine result (S.held out.old) (S.held out.new) }
     ensures rest { S.same_rest out.old out.new }
 {
-    match decide(alloc, words, files) {
-        Ok(verdict) => report_verdict(out, &verdict),
-        Err(Stop::NotBuilt) => report(out, &[Part::NotBuilt], Status::Refused),
-        Err(Stop::ReadFault) => report(out, &[Part::ReadFault { word: 7 }], Status::ReadFault),
-        Err(Stop::WriteFault) => Status::WriteFault,
-        Err(Stop::Memory) => Status::Memory,
-    }
+    class_format::one_record();
+    class_format::text_or_fault();
+    linking::one_program();
+    linking::program_or_refusal();
+    let found = find_answer(alloc, words, files);
+    report(out, &found)
 }

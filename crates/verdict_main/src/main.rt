@@ -10,18 +10,18 @@ use ports::{RealFiles, RealOut, put_all};
 use std::process::ExitCode;
 use verdict::{Status, run};
 
-/// Puts a text to standard output, and ends with a number, or with that of a fault of writing.
-fn print(rt: &HostRuntime, text: &str, number: u8) -> u8 {
+/// Puts a text to standard output, and answers the number of the status.
+fn print(rt: &HostRuntime, text: &str) -> u8 {
     match put_all(&mut RealOut::new(rt), text.as_bytes()) {
-        Ok(()) => number,
+        Ok(()) => 0,
         Err(_) => Status::WriteFault.number(),
     }
 }
 
 fn main(rt: HostRuntime) -> ExitCode {
     let number = match words_of(&rt) {
-        Asked::Help => print(&rt, HELP, 0),
-        Asked::Version => print(&rt, VERSION, 0),
+        Asked::Help => print(&rt, HELP),
+        Asked::Version => print(&rt, VERSION),
         Asked::Words(words) => run(
             rt.alloc(),
             &words,
@@ -29,7 +29,6 @@ fn main(rt: HostRuntime) -> ExitCode {
             &mut RealOut::new(&rt),
         )
         .number(),
-        Asked::Nothing => print(&rt, "refused not-built\n", Status::Refused.number()),
         Asked::Memory => Status::Memory.number(),
     };
     ExitCode::from(number)

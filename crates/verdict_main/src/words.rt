@@ -1,7 +1,11 @@
 //! The words of the command line.
 
 use line_text::Words;
-use std::{env, io};
+use ports::Memory;
+use std::env::{Env, FillError};
+
+/// The most bytes that the system hands over as one word.
+const MOST: usize = 131072;
 
 /// What the command line asks for.
 pub enum Asked {
@@ -11,25 +15,30 @@ pub enum Asked {
     Version,
     /// What these words say.
     Words(Words),
-    /// Nothing: a word is not UTF-8.
-    Nothing,
     /// Memory ran out.
     Memory,
 }
 
-/// The words behind the program's name. `--help` and `--version` are asked for where they stand alone.
-pub fn words_of(rt: &HostRuntime) -> Asked {
-    let args = match env::args(rt) {
-        Ok(args) => args,
-        Err(error) if error.kind() == io::ErrorKind::OutOfMemory => return Asked::Memory,
-        Err(_) => return Asked::Nothing,
-    };
+/// The words behind the program's name. In the place of one that is not UTF-8 an empty one stands, which fits no command.
+fn read_all(rt: &HostRuntime) -> Result<Words, Memory> {
+    let mut buffer = vec![in rt.alloc(); 0u8; MOST].map_err(|_| Memory)?;
     let mut words = Words::new(rt.alloc());
-    for arg in args.skip(1) {
-        if words.push(arg.as_str()).is_err() {
-            return Asked::Memory;
-        }
+    for place in 1..usize::MAX {
+        let word = match rt.arg(place, buffer.as_mut_slice()) {
+            Ok(length) => str::from_utf8(&buffer[..length]).unwrap_or(""),
+            Err(FillError::TooLong) => "",
+            Err(FillError::NotPresent) => break,
+        };
+        words.push(word)?;
     }
+    Ok(words)
+}
+
+/// What the words ask for. `--help` and `--version` are asked for where they stand alone.
+pub fn words_of(rt: &HostRuntime) -> Asked {
+    let Ok(words) = read_all(rt) else {
+        return Asked::Memory;
+    };
     match (words.len(), words.get(0)) {
         (1, Some("--help")) => Asked::Help,
         (1, Some("--version")) => Asked::Version,
