@@ -1,5 +1,5 @@
 -- The words of commands.
-use Rattle.std.proofs.Common.{◌≡◌, ◌≤◌, ◌+◌, ◌⊎◌, ℕ, List, [], length, get_or, sym, ap, ◌∙◌, arith}
+use Rattle.std.proofs.Common.{◌≡◌, ◌≤◌, ◌+◌, ℕ, List, [], length, get_or, sym, ap, ◌∙◌, arith}
 use Rattle.line_text.specs.CommandLine.{CommandLine}
 use Rattle.line_text.specs.declared.command.Command.{Command}
 use Rattle.line_text.specs.declared.command.Command.TheVariants.{Decide, CheckAllowed, CheckForbidden, Show, Generate}

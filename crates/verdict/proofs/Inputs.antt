@@ -1,5 +1,5 @@
 -- Class files that are told and make a program meet no refusal, and make no other program.
-use Rattle.std.proofs.Common.{◌≡◌, ◌≢◌, ◌<◌, ◌≤◌, ◌+◌, ◌-◌, ℕ, zero, suc, List, [], ◌∷◌, Option, Some, None, IfSome, length, slice_get, subst, sym, ap, refl, ◌∙◌, arith}
+use Rattle.std.proofs.Common.{◌≡◌, ◌<◌, ◌≤◌, ◌+◌, ◌-◌, ℕ, zero, suc, List, [], ◌∷◌, Option, Some, IfSome, length, slice_get, subst, refl, arith}
 use Rattle.std.proofs.lemmas.Option.{slice_get_within}
 use Rattle.class_files.specs.Input.{AreClassFiles, Contents, IsLinked, IsMisformed, IsTooLong, IsUnlinked, WhereTold, limit}
 use Rattle.class_files.specs.declared.linked.Linked.{Linked}
@@ -12,7 +12,6 @@ use Rattle.linking.specs.Linking.{IsProgramOf}
 use Rattle.linking.specs.Refusals.{IsRefusedFor}
 use Rattle.linking.specs.declared.refusal.ProgramRefusal.{ProgramRefusal}
 use Rattle.linking.specs.declared.refusal.ProgramRefusal.TheVariants as program
-use Rattle.program.specs.Program.{Prog}
 use Rattle.verdict.specs.Answers.{IsLimited, by_bytes, by_limit, LinksWell, RefusesFormat, RefusesProgram, TellsFile}
 use Rattle.verdict.specs.Commands.{NamesClasses}
 

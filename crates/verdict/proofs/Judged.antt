@@ -1,8 +1,8 @@
 -- From the run of a straight program to the answer.
-use Rattle.std.proofs.Common.{◌≡◌, ◌↔◌, ℕ, ℤ, Bool, true, false, List, Option, Some, None, IsTrue, All, subst, sym, ap, ◌∙◌, get_or, length, ◌<◌}
+use Rattle.std.proofs.Common.{◌≡◌, ◌↔◌, ℕ, ℤ, Bool, true, false, List, Option, Some, None, IsTrue, All, subst, sym, ◌∙◌, get_or}
 use Rattle.java_int.specs.JavaInt.{Fits}
-use Rattle.line_text.specs.declared.outcome.OutcomePart.{OutcomePart}
 use Rattle.ports.specs.Growth.{IsTold}
+use Rattle.program.specs.Bounds.{IsWhole}
 use Rattle.program.specs.Program.{Prog}
 use Rattle.program.specs.Straight.{IsStraight}
 use Rattle.action_orders.specs.Execution.{Exec}
@@ -15,7 +15,7 @@ use Rattle.straight.specs.Laws.{IsJustified, StraightIsJustified, sequence_of}
 use Rattle.straight.specs.Meaning.{execution_of, printed_of, ints_of}
 use Rattle.straight.specs.Runs.{IsRunOf}
 use Rattle.straight.specs.declared.run.StraightRun.{StraightRun}
-use Rattle.straight_executions.specs.Laws.{StraightForbids}
+use Rattle.straight_executions.specs.Laws.{StraightForbids, StraightIsWhole}
 use Rattle.straight_sequence.specs.Defaults.{AreDefaultsInOrder}
 use Rattle.straight_sequence.specs.Steps.{IsSequenceOf}
 use Rattle.straight_trace.specs.Within.{TellsPrinted}
@@ -85,3 +85,8 @@ not_told b is tells x = untrue (subst (λ (c : Bool). IsTrue c) is (tells.1 x))
 
 pub told : {X : Type 0} (b : Bool) → b ≡ true → IsTrue b ↔ X → X
 told b is tells = tells.0 is
+
+-- the bounds of a straight program leave nothing out where the ints have their whole width
+pub whole_is : (p : Prog) (jumps width : ℕ) (whole : Bool) → StraightIsWhole → IsStraight p → IsTrue whole ↔ (width ≡ 32) → IsTrue whole ↔ IsWhole p jumps width
+whole_is p jumps width whole law straight wide =
+    ((λ t. (law p jumps width straight).1 (wide.0 t)), (λ h. wide.1 ((law p jumps width straight).0 h)))

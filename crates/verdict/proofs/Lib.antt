@@ -1,4 +1,5 @@
 pub mod Commands
 pub mod Inputs
 pub mod Judged
+pub mod LineTexts
 pub mod Told

@@ -65,11 +65,29 @@ module _ (words : List (List ℕ)) (old new : Contents) (r s w x p q : ℕ) (hel
   by_input (input.Format word kind place) is grows =
       by_format (record { from = is.from; names = is.names; word = word; kind = kind; place = place; misformed = is.reason; line = grows })
   by_input (input.Program (program.Class kind class)) is grows = by_program (record {
-    from = is.from; names = is.names; refusal = program.Class kind class; unlinked = is.reason; no_limit = λ other e. cc; line = grows })
+    from = is.from;
+    names = is.names;
+    refusal = program.Class kind class;
+    unlinked = is.reason;
+    no_limit = λ other e. cc;
+    line = grows;
+  })
   by_input (input.Program (program.Code kind method pc detail)) is grows = by_program (record {
-    from = is.from; names = is.names; refusal = program.Code kind method pc detail; unlinked = is.reason; no_limit = λ other e. cc; line = grows })
+    from = is.from;
+    names = is.names;
+    refusal = program.Code kind method pc detail;
+    unlinked = is.reason;
+    no_limit = λ other e. cc;
+    line = grows;
+  })
   by_input (input.Program (program.Typing kind method pc)) is grows = by_program (record {
-    from = is.from; names = is.names; refusal = program.Typing kind method pc; unlinked = is.reason; no_limit = λ other e. cc; line = grows })
+    from = is.from;
+    names = is.names;
+    refusal = program.Typing kind method pc;
+    unlinked = is.reason;
+    no_limit = λ other e. cc;
+    line = grows;
+  })
   by_input (input.Program (program.Limit kind)) is grows = by_limit (record { from = is.from; names = is.names; kind = kind; unlinked = is.reason; line = grows })
   by_input (input.Program program.Memory) is grows = grows
   by_input input.Memory is grows = grows

@@ -1,5 +1,5 @@
 -- The answers of the top call, each with its cause and its lines. What files hold is claimed where they tell it.
-use Rattle.std.specs.Prelude.{◌≡◌, ◌<◌, ◌≤◌, ℕ, Bool, List, Option, Some, length, slice_get, codes, ⊤}
+use Rattle.std.specs.Prelude.{◌≡◌, ◌<◌, ◌≤◌, ℕ, Bool, List, Option, Some, length, codes, ⊤}
 use Rattle.class_files.specs.Input.{Contents, IsLinked, IsMisformed, IsTooLong, IsUnlinked, IsUnread, limit}
 use Rattle.class_files.specs.declared.linked.Linked.{Linked}
 use Rattle.line_text.specs.CommandLine.{IsUsageAt}
@@ -12,7 +12,7 @@ use Rattle.straight_check.specs.StraightProgram.{IsStraightProgram}
 use Rattle.untyped_program.specs.declared.refusal.LimitKind.{LimitKind}
 use Rattle.verdict.specs.declared.request.Question.{Question}
 use Rattle.verdict.specs.declared.status.Status.{Status}
-use Rattle.verdict.specs.declared.status.Status.TheVariants.{Allowed, Forbidden, Shown, Usage, Refused, Limit, ReadFault, WriteFault, Memory}
+use Rattle.verdict.specs.declared.status.Status.TheVariants.{Allowed, Forbidden, Shown, WriteFault, Memory}
 use Rattle.verdict.specs.Commands.{AsksDecide, AsksNoDecide, AsksShow, IsWord, NamesClasses, decide_classes, seq_place, show_classes}
 use Rattle.verdict.specs.Judging.{IsDecided}
 use Rattle.verdict.specs.KindNames.{greatest_of, name_of_limit_kind}

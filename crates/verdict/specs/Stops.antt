@@ -1,5 +1,5 @@
 -- What ends a command before its answer, each with its cause; want of memory has none.
-use Rattle.std.specs.Prelude.{◌≡◌, ℕ, List, [], ⊤, ◌⊎◌}
+use Rattle.std.specs.Prelude.{ℕ, List, [], ⊤, ◌⊎◌}
 use Rattle.class_files.specs.Input.{Contents, IsInputRefusal, IsLinked}
 use Rattle.class_files.specs.declared.linked.Linked.{Linked}
 use Rattle.class_files.specs.declared.refusal.InputRefusal.{InputRefusal}

@@ -1,5 +1,5 @@
 -- What commands find out, before it is put to the output.
-use Rattle.std.specs.Prelude.{◌≡◌, ℕ, List, Bool, true, false, Result, Ok, Err, ⊤}
+use Rattle.std.specs.Prelude.{◌≡◌, ℕ, List, false, Result, Ok, Err, ⊤}
 use Rattle.class_files.specs.Input.{Contents, IsLinked}
 use Rattle.class_files.specs.declared.linked.Linked.{Linked}
 use Rattle.ports.specs.Growth.{SameContents}
@@ -9,7 +9,7 @@ use Rattle.verdict.specs.declared.decide.Verdict.{Verdict}
 use Rattle.verdict.specs.declared.request.Question.{Question}
 use Rattle.verdict.specs.declared.stop.Stop.{Stop}
 use Rattle.verdict.specs.declared.stop.Stop.TheVariants.{WriteFault}
-use Rattle.verdict.specs.Commands.{AsksDecide, AsksNoDecide, AsksShow, IsWord, seq_place, show_classes}
+use Rattle.verdict.specs.Commands.{AsksDecide, AsksShow, IsWord, seq_place, show_classes}
 use Rattle.verdict.specs.Judging.{IsDecided}
 
 -- a verdict on a question about the class files that the words name, with the bounds and the budget of it

@@ -66,7 +66,14 @@ fn verdicts(rt: HostRuntime) -> Result<(), Fail> {
     for row in &ROWS {
         let class = class_of(rt.alloc(), row.code)?;
         let words = [
-            "decide", "4", row.width, "100000", row.outcome, "seq", "ref", "M.class",
+            "decide",
+            "4",
+            row.width,
+            "100000",
+            row.outcome,
+            "seq",
+            "ref",
+            "M.class",
         ];
         let answer = ask(rt.alloc(), &words, class.as_slice())?;
         let status = if row.allowed {

@@ -127,6 +127,9 @@ fn output_fails(rt: HostRuntime) -> Result<(), Fail> {
     assert_eq!(rt; answer.status, Status::WriteFault);
     assert_eq!(rt; answer.out.bytes(), b"verdict allowed\n".as_slice());
     let seq = answer.files.content("seq");
-    assert_eq!(rt; seq.is_some_and(|text| text.starts_with(SEQ_FRONT.as_bytes())), true);
+    assert_eq!(rt;
+        seq.is_some_and(|text| text.starts_with(SEQ_FRONT.as_bytes())),
+        true
+    );
     Ok(())
 }

@@ -186,7 +186,12 @@ fn two_files(rt: HostRuntime) -> Result<(), Fail> {
         ),
     ];
     for (words, class, status, text) in rows {
-        let mut world = world_of(rt.alloc(), &EXAMPLE, Vec::new(rt.alloc()), Vec::new(rt.alloc()))?;
+        let mut world = world_of(
+            rt.alloc(),
+            &EXAMPLE,
+            Vec::new(rt.alloc()),
+            Vec::new(rt.alloc()),
+        )?;
         world.files.insert("N.class", class)?;
         let answer = run_in(rt.alloc(), words, world)?;
         assert!(rt; is_answer(&answer, status, text));

@@ -1,4 +1,4 @@
-use Rattle.std.proofs.Common.{◌≡◌, ◌<◌, ℕ, ℤ, List, get_or}
+use Rattle.std.proofs.Common.{◌≡◌, ◌<◌, ℕ, get_or}
 use Rattle.line_text.specs.declared.outcome.OutcomePart.{OutcomePart}
 use Rattle.verdict.proofs.judge.names_main.Given as goal
 
