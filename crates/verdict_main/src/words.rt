@@ -19,17 +19,24 @@ pub enum Asked {
     Memory,
 }
 
-/// The words behind the program's name. In the place of one that is not UTF-8 an empty one stands, which fits no command.
+/// The text of a word's bytes. Where they are not UTF-8 it is empty, and fits no command.
+fn text_of(bytes: &[u8]) -> &str {
+    match str::from_utf8(bytes) {
+        Ok(text) => text,
+        Err(_) => "",
+    }
+}
+
+/// The words behind the program's name.
 fn read_all(rt: &HostRuntime) -> Result<Words, Memory> {
     let mut buffer = vec![in rt.alloc(); 0u8; MOST].map_err(|_| Memory)?;
     let mut words = Words::new(rt.alloc());
     for place in 1..usize::MAX {
-        let word = match rt.arg(place, buffer.as_mut_slice()) {
-            Ok(length) => str::from_utf8(&buffer[..length]).unwrap_or(""),
-            Err(FillError::TooLong) => "",
-            Err(FillError::NotPresent) => break,
-        };
-        words.push(word)?;
+        match rt.arg(place, buffer.as_mut_slice()) {
+            Ok(length) => words.push(text_of(&buffer[..length]))?,
+            Err(FillError::TooLong) => words.push("")?,
+            Err(FillError::NotPresent) => return Ok(words),
+        }
     }
     Ok(words)
 }
