@@ -4,6 +4,7 @@ ghost use Rattle.std.specs.Prelude.{◌≤◌, IfOk, length};
 ghost use Rattle.class_format.specs.ClassText.{IsValid};
 
 mod data;
+mod refused;
 
 use crate::{ClassList, ProgramRefusal, link};
 use class_format::{ClassRecord, read_class, valid_has_text};
@@ -11,6 +12,7 @@ use class_profile::ClassKind;
 use data::{Field, Head, MORE, Part, class_bytes};
 use program::{MethodId, Operand, Program};
 use reached_methods::CodeKind;
+use refused::{CLASS_ROWS, CODE_ROWS};
 use std::alloc::{AllocError, Global};
 use std::test::Fail;
 use typing::TypeKind;
@@ -105,7 +107,8 @@ struct Row {
     want: Want,
 }
 
-const ROWS: [Row; 35] = [
+/// Programs, and refusals by types and limits.
+const ROWS: [Row; 16] = [
     // a thread is made, started and waited for; it reads a volatile variable
     Row {
         twist: Twist::Nothing,
@@ -213,187 +216,6 @@ const ROWS: [Row; 35] = [
                 operands: &[Operand::Constant(5), Operand::Variable(0), Operand::Nothing],
             }],
         },
-    },
-    // the constructor of T does more than it may
-    Row {
-        twist: Twist::Nothing,
-        flags: 9,
-        codes: [RETURN, RETURN, RETURN, RETURN, RETURN, RETURN, RETURN],
-        want: Want::Class(ClassKind::Constructor, Some(2)),
-    },
-    // the same, and an unknown number in main
-    Row {
-        twist: Twist::Nothing,
-        flags: 9,
-        codes: [&[0x6c], RETURN, RETURN, RETURN, RETURN, RETURN, RETURN],
-        want: Want::Class(ClassKind::Constructor, Some(2)),
-    },
-    // two classes have one name
-    Row {
-        twist: Twist::SameClass,
-        flags: 9,
-        codes: [RETURN, RETURN, RETURN, RETURN, RETURN, INIT, RETURN],
-        want: Want::Class(ClassKind::DuplicateClass, Some(1)),
-    },
-    // main isn't static
-    Row {
-        twist: Twist::NoMain,
-        flags: 9,
-        codes: [RETURN, RETURN, RETURN, RETURN, RETURN, INIT, RETURN],
-        want: Want::Class(ClassKind::NoMain, None),
-    },
-    // M has a class initializer
-    Row {
-        twist: Twist::ClassInit,
-        flags: 9,
-        codes: [RETURN, RETURN, RETURN, RETURN, RETURN, INIT, RETURN],
-        want: Want::Class(ClassKind::ClassInit, Some(0)),
-    },
-    // N has a field of objects
-    Row {
-        twist: Twist::InstanceField,
-        flags: 9,
-        codes: [RETURN, RETURN, RETURN, RETURN, RETURN, INIT, RETURN],
-        want: Want::Class(ClassKind::InstanceField, Some(1)),
-    },
-    // N has a field that is no int
-    Row {
-        twist: Twist::FieldType,
-        flags: 9,
-        codes: [RETURN, RETURN, RETURN, RETURN, RETURN, INIT, RETURN],
-        want: Want::Class(ClassKind::FieldType, Some(1)),
-    },
-    // N is an interface
-    Row {
-        twist: Twist::Interface,
-        flags: 9,
-        codes: [RETURN, RETURN, RETURN, RETURN, RETURN, INIT, RETURN],
-        want: Want::Class(ClassKind::ThreadClass, Some(1)),
-    },
-    // N has two methods of one name and descriptor
-    Row {
-        twist: Twist::SameMethod,
-        flags: 9,
-        codes: [RETURN, RETURN, RETURN, RETURN, RETURN, INIT, RETURN],
-        want: Want::Class(ClassKind::NameForm, Some(1)),
-    },
-    // N is an interface, but the constructor of T counts first
-    Row {
-        twist: Twist::Interface,
-        flags: 9,
-        codes: [RETURN, RETURN, RETURN, RETURN, RETURN, RETURN, RETURN],
-        want: Want::Class(ClassKind::Constructor, Some(2)),
-    },
-    // an operand is cut off
-    Row {
-        twist: Twist::Nothing,
-        flags: 9,
-        codes: [&[0, 0x10], RETURN, RETURN, RETURN, RETURN, INIT, RETURN],
-        want: Want::Code(CodeKind::CutInstruction, MAIN, 1),
-    },
-    // a name that no field has
-    Row {
-        twist: Twist::Nothing,
-        flags: 9,
-        codes: [
-            &[0xb2, 0, 47, 0xb1],
-            RETURN,
-            RETURN,
-            RETURN,
-            RETURN,
-            INIT,
-            RETURN,
-        ],
-        want: Want::Code(CodeKind::UnknownName, MAIN, 0),
-    },
-    // a thread is made outside of main
-    Row {
-        twist: Twist::Nothing,
-        flags: 9,
-        codes: [
-            &[0xb8, 0, 47, 0xb1],
-            &[0xbb, 0, 6, 0x57, 0xb1],
-            RETURN,
-            RETURN,
-            RETURN,
-            INIT,
-            RETURN,
-        ],
-        want: Want::Code(CodeKind::ForbiddenCall, A, 0),
-    },
-    // a final field is read
-    Row {
-        twist: Twist::Final,
-        flags: 9,
-        codes: [
-            &[0xb2, 0, 32, 0x57, 0xb1],
-            RETURN,
-            RETURN,
-            RETURN,
-            RETURN,
-            INIT,
-            RETURN,
-        ],
-        want: Want::Code(CodeKind::FinalAccess, MAIN, 0),
-    },
-    // a method calls itself by another
-    Row {
-        twist: Twist::Nothing,
-        flags: 9,
-        codes: [
-            &[0xb8, 0, 47, 0xb1],
-            &[0xb8, 0, 51, 0xb1],
-            &[0, 0xb8, 0, 47, 0xb1],
-            RETURN,
-            RETURN,
-            INIT,
-            RETURN,
-        ],
-        want: Want::Code(CodeKind::Recursion, A, 0),
-    },
-    // a thread is made in a loop
-    Row {
-        twist: Twist::Nothing,
-        flags: 9,
-        codes: [
-            &[0xbb, 0, 6, 0x57, 0xa7, 0xff, 0xfc],
-            RETURN,
-            RETURN,
-            RETURN,
-            RETURN,
-            INIT,
-            RETURN,
-        ],
-        want: Want::Code(CodeKind::ThreadInLoop, MAIN, 0),
-    },
-    // an unknown number in main
-    Row {
-        twist: Twist::Nothing,
-        flags: 9,
-        codes: [&[0, 0x6c], RETURN, RETURN, RETURN, RETURN, INIT, RETURN],
-        want: Want::Code(CodeKind::Opcode, MAIN, 1),
-    },
-    // main falls out of its code
-    Row {
-        twist: Twist::Nothing,
-        flags: 9,
-        codes: [&[0], RETURN, RETURN, RETURN, RETURN, INIT, RETURN],
-        want: Want::Code(CodeKind::JumpTarget, MAIN, 0),
-    },
-    // main can't be typed, and N.a has an unknown number
-    Row {
-        twist: Twist::Nothing,
-        flags: 9,
-        codes: [
-            &[0x57, 0xb8, 0, 48, 0xb1],
-            RETURN,
-            RETURN,
-            &[0x6c],
-            RETURN,
-            INIT,
-            RETURN,
-        ],
-        want: Want::Code(CodeKind::Opcode, C, 0),
     },
     // nothing is on the stack
     Row {
@@ -833,6 +655,22 @@ fn is_wanted(alloc: Global, row: &Row) -> Result<bool, Fail> {
 #[test]
 fn links(rt: HostRuntime) -> Result<(), Fail> {
     for (place, row) in ROWS.iter().enumerate() {
+        assert_eq!(rt; (place, is_wanted(rt.alloc(), row)?), (place, true));
+    }
+    Ok(())
+}
+
+#[test]
+fn refuses_classes(rt: HostRuntime) -> Result<(), Fail> {
+    for (place, row) in CLASS_ROWS.iter().enumerate() {
+        assert_eq!(rt; (place, is_wanted(rt.alloc(), row)?), (place, true));
+    }
+    Ok(())
+}
+
+#[test]
+fn refuses_codes(rt: HostRuntime) -> Result<(), Fail> {
+    for (place, row) in CODE_ROWS.iter().enumerate() {
         assert_eq!(rt; (place, is_wanted(rt.alloc(), row)?), (place, true));
     }
     Ok(())
