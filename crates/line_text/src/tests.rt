@@ -86,6 +86,53 @@ fn outcome_texts(rt: HostRuntime) -> Result<(), Fail> {
     Ok(())
 }
 
+#[test]
+fn more_outcome_faults(rt: HostRuntime) -> Result<(), Fail> {
+    let faults = [
+        ("0==", 2),
+        ("00=1", 1),
+        ("-1=0", 0),
+        ("0=-", 3),
+        ("0=--1", 3),
+        ("0=1;;1=2", 4),
+        (";0=1", 0),
+        ("0=1,,2", 4),
+        ("0=1;0=2", 4),
+        ("2=1;1=1", 4),
+        ("0=1 ", 3),
+        ("0=00", 3),
+        ("0=-2147483648,2147483648", 23),
+        ("9=1", 0),
+        ("x", 0),
+        ("0=\u{e9}", 2),
+    ];
+    for (text, place) in faults {
+        match read_outcome(rt.alloc(), text) {
+            Ok(_) => assert!(rt; false, "{text} is no outcome"),
+            Err(refusal) => assert_eq!(rt; refusal, OutcomeRefusal::Fault { place }, "at {text}"),
+        }
+    }
+    Ok(())
+}
+
+#[test]
+fn accepted_outcomes(rt: HostRuntime) -> Result<(), Fail> {
+    let texts = [
+        ("0=", 1),
+        ("7=", 1),
+        ("0=0", 1),
+        ("0=-1", 1),
+        ("0=2147483647,-2147483648", 1),
+        ("0=1;1=2;7=3", 3),
+        ("1=;2=;3=", 3),
+    ];
+    for (text, parts) in texts {
+        let outcome = read_outcome(rt.alloc(), text)?;
+        assert_eq!(rt; outcome.len(), parts, "at {text}");
+    }
+    Ok(())
+}
+
 // The words of a line, a blank between each two.
 fn words_of(alloc: Global, line: &str) -> Result<Words, Memory> {
     let mut words = Words::new(alloc);
@@ -155,5 +202,35 @@ fn command_lines(rt: HostRuntime) -> Result<(), Fail> {
         }
     }
     assert!(rt; read_words(rt.alloc(), &Words::new(rt.alloc())).is_err());
+    Ok(())
+}
+
+#[test]
+fn more_command_faults(rt: HostRuntime) -> Result<(), Fail> {
+    let faults = [
+        ("", 0),
+        ("Show c", 0),
+        ("show c c", 2),
+        ("generate", 1),
+        ("generate 00 s r", 1),
+        ("generate 0 s s", 3),
+        ("generate 0 s", 3),
+        ("check-forbidden 0 32 1= r", 5),
+        ("check-forbidden 0 32 x r c", 3),
+        ("check-allowed 0 32 1= c c", 5),
+        ("check-allowed 0 32 0=1;0=1 s c", 3),
+        ("check-allowed 256 32 1= s c", 1),
+        ("decide", 1),
+        ("decide 0 02 1 0= s r c", 2),
+        ("decide 0 2 -1 0= s r c", 3),
+        ("decide 0 2 1 0=  r c", 5),
+        ("decide 0 2 1 0= s r s", 7),
+    ];
+    for (line, word) in faults {
+        match read_words(rt.alloc(), &words_of(rt.alloc(), line)?) {
+            Ok(_) => assert!(rt; false, "{line} is no command line"),
+            Err(refusal) => assert_eq!(rt; refusal, WordsRefusal::Usage { word }, "at {line}"),
+        }
+    }
     Ok(())
 }
