@@ -1,10 +1,10 @@
 -- The classes so far.
 use Rattle.std.proofs.Common.{◌≡◌, ◌<◌, ◌++◌, ◌⊎◌, ℕ, List, [], ◌∷◌, Some, length, get_or, slice_get, refl, sym, ◌∙◌, ap, subst, inl, inr}
 use Rattle.std.proofs.lemmas.Option.{same_Some, slice_get_read}
+use Rattle.program.proofs.Lists.{pushed}
 use Rattle.class_format.specs.ClassText.{ClassText}
 use Rattle.class_format.specs.declared.record.ClassRecord.{ClassRecord}
 use Rattle.class_files.specs.SoFar.{AreClassesOf}
-use Rattle.class_files.proofs.Lists.{pushed}
 
 module _ (files : List (List ℕ)) (classes : List ClassRecord) (bytes : List ℕ) (within : length classes < length files)
     (at : bytes ≡ get_or files (length classes) bytes) (texts : AreClassesOf files classes) where

@@ -1,5 +1,4 @@
 mod Classes
 mod Comes
 mod Limits
-mod Lists
 mod Told

@@ -1,6 +1,7 @@
 -- Classes make at most one program.
-use Rattle.std.proofs.Common.{◌≡◌, ℕ, suc, List, [], ◌∷◌, Some, length, slice_get, refl, sym, ap, ◌∙◌, subst, arith}
+use Rattle.std.proofs.Common.{◌≡◌, ℕ, List, Some, slice_get, sym, ap, ◌∙◌, subst, arith}
 use Rattle.std.proofs.lemmas.Option.{slice_get_within}
+use Rattle.program.proofs.Lists.{same_at_places, there_is}
 use Rattle.class_format.specs.declared.record.ClassRecord.{ClassRecord}
 use Rattle.opcodes.specs.declared.listed.Listed.{Listed}
 use Rattle.program.specs.Program.{Prog}
@@ -21,7 +22,6 @@ use Rattle.untyped_program.specs.declared.untyped.UntypedProgram.{UntypedProgram
 use Rattle.linking.specs.Laws.{OneProgram}
 use Rattle.linking.specs.Linking.{AreTypedMethods, HasMainOf, IsTypedMethod, IsUntypedOf}
 use Rattle.linking.specs.Operands.{operands_of}
-use Rattle.linking.proofs.Typable.{there_is}
 
 -- ---- Main
 
@@ -54,17 +54,8 @@ same_typed one_typing u m n is also =
     one_method m.id n.id m.frame n.frame m.listing n.listing m.operands n.operands m.typed n.typed (is.id ∙ sym also.id) (is.frame ∙ sym also.frame)
     (is.listing ∙ sym also.listing) (is.operands ∙ ap (operands_of u.listing u.symbols) typed ∙ sym also.operands) typed
 
-same_lists : {X : Type 0} (xs ys : List X) → length xs ≡ length ys → ((k : ℕ) (x y : X) → slice_get xs k ≡ Some x → slice_get ys k ≡ Some y → x ≡ y) → xs ≡ ys
-same_lists [] [] size each = refl
-same_lists [] (y ∷ ys) size each = absurd (omega (arith, size))
-same_lists (x ∷ xs) [] size each = absurd (omega (arith, size))
-same_lists (x ∷ xs) (y ∷ ys) size each =
-    let first = each 0 x y refl refl in
-    let rest = same_lists xs ys (omega (arith, size)) (λ k a b a_there b_there. each (suc k) a b a_there b_there) in
-    cc
-
 same_methods : OneTyping → (us : List UntypedMethod) (ms ns : List Method) → AreTypedMethods us ms → AreTypedMethods us ns → ms ≡ ns
-same_methods one_typing us ms ns are also = same_lists ms ns (are.same_length ∙ sym also.same_length) each
+same_methods one_typing us ms ns are also = same_at_places ms ns (are.same_length ∙ sym also.same_length) each
   where
     each : (k : ℕ) (m n : Method) → slice_get ms k ≡ Some m → slice_get ns k ≡ Some n → m ≡ n
     each k m n m_there n_there =

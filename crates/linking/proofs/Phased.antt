@@ -1,6 +1,7 @@
 -- The refusals of the last two phases are those of the classes.
 use Rattle.std.proofs.Common.{◌≡◌, ℕ, List, Some, slice_get, arith}
 use Rattle.std.proofs.lemmas.Option.{slice_get_within}
+use Rattle.program.proofs.Lists.{there_is}
 use Rattle.class_format.specs.declared.record.ClassRecord.{ClassRecord}
 use Rattle.program.specs.declared.method.Method.{Method}
 use Rattle.typing.specs.declared.untyped.UntypedMethod.{UntypedMethod}
@@ -10,7 +11,6 @@ use Rattle.linking.specs.Phases.{IsFirstRefusalOf, IsLimitOf}
 use Rattle.linking.specs.Refusals.{IsRefusedFor, IsSound}
 use Rattle.linking.specs.declared.refusal.ProgramRefusal.{ProgramRefusal}
 use Rattle.linking.specs.declared.refusal.ProgramRefusal.TheVariants.{Class, Code, Typing, Limit, Memory}
-use Rattle.linking.proofs.Typable.{there_is}
 
 -- methods that have types are sound
 pub all_sound : (us : List UntypedMethod) (ms : List Method) → AreTypedMethods us ms → (k : ℕ) (u : UntypedMethod) → slice_get us k ≡ Some u → IsSound u

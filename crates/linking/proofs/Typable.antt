@@ -1,10 +1,12 @@
 -- The reached methods of faultless classes can be typed.
-use Rattle.std.proofs.Common.{◌≡◌, ◌<◌, ◌+◌, inl, inr, ℕ, zero, suc, pos, List, [], ◌∷◌, Option, Some, length, map, get_or, refl, sym, ap, subst, ◌∙◌, arith}
-use Rattle.std.specs.Prelude.{All, slice_get, if◌then◌else◌}
+use Rattle.std.proofs.Common.{◌≡◌, ◌<◌, ◌+◌, inl, inr, ℕ, suc, pos, List, [], ◌∷◌, Option, Some, length, get_or, refl, sym, ap, subst, ◌∙◌, arith}
+use Rattle.std.specs.Prelude.{All, if◌then◌else◌}
 use Rattle.std.specs.List.{AllByRecursion}
 use Rattle.std.specs.Option.{option_or}
+use Rattle.std.proofs.lemmas.List.{length-map}
 use Rattle.std.proofs.lemmas.List.Elements.{All-from_recursion}
 use Rattle.std.proofs.lemmas.Option.{none-some, same_Some, slice_get-get_or}
+use Rattle.program.proofs.Lists.{there_is}
 use Rattle.relations.specs.Path.{Walk, here, on}
 use Rattle.class_format.specs.ClassText.{IsValid, IsMethod, IsCode, IsOfMethod, IsOfMethodOpen}
 use Rattle.class_format.specs.declared.record.Attribute.{Attribute, out-Attribute}
@@ -35,17 +37,6 @@ use Rattle.untyped_program.specs.Untyped.{AreUntyped}
 use Rattle.linking.specs.Phases.{CanBeTyped}
 use Rattle.linking.proofs.Mains.{all_at}
 use Rattle.linking.proofs.Readable.{all_reached, reads_at, start}
-
--- ---- Lists
-
-pub there_is : {A : Type 0} (xs : List A) (k : ℕ) → k < length xs → (x : A) × (slice_get xs k ≡ Some x)
-there_is [] k within = absurd (omega (arith, within))
-there_is (x ∷ xs) zero within = (x, refl)
-there_is (x ∷ xs) (suc k) within = there_is xs k (omega (arith, within))
-
-mapped : {A B : Type 0} (f : A → B) (xs : List A) → length (map f xs) ≡ length xs
-mapped f [] = refl
-mapped f (x ∷ xs) = ap suc (mapped f xs)
 
 -- ---- Code of classes that have a text
 
@@ -108,8 +99,8 @@ module _ (classes : List ClassRecord) (main : MethodId) (faultless : IsFaultless
         let some = (valid_code classes m.id is.class is.body valid is.code).some_code in
         let sound = no_fault m.id is.class is.body is.reached is.code some in
         record {
-          named = sym (mapped Some u.symbols) ∙ ap length untyped.symbols ∙ as_many_symbols untyped.class.pool 0 m.targets ∙ sym (mapped Names m.targets)
-              ∙ sym (ap length is.targets) ∙ mapped _ m.listing ∙ sym (ap length untyped.listing);
+          named = sym (length-map u.symbols Some) ∙ ap length untyped.symbols ∙ as_many_symbols untyped.class.pool 0 m.targets ∙ sym (length-map m.targets Names)
+              ∙ sym (ap length is.targets) ∙ length-map m.listing _ ∙ sym (ap length untyped.listing);
           start = subst (λ (l : List Listed). IsListed l (pos 0)) (sym untyped.listing) (start is.body.code sound m.listing is.listing some);
           reached = subst AllReached (sym untyped.listing) (all_reached is.body.code sound m.listing is.listing);
         }

@@ -1,7 +1,8 @@
 -- The typed methods so far.
 use Rattle.std.proofs.Common.{◌≡◌, ◌≢◌, ◌<◌, ◌+◌, ◌++◌, ◌⊎◌, ℕ, zero, suc, List, [], ◌∷◌, Some, Contains, length, get_or, take, slice_get, refl, sym, ap, ◌∙◌, subst, arith, inl, inr, length-append}
 use Rattle.std.proofs.lemmas.List.{take_more}
-use Rattle.std.proofs.lemmas.Option.{none-some, same_Some, slice_get_within, slice_get_read, get_or_from_slice_get}
+use Rattle.std.proofs.lemmas.Option.{none-some, slice_get_within, slice_get_read, get_or_from_slice_get}
+use Rattle.program.proofs.Lists.{pushed, there_is}
 use Rattle.program.specs.declared.method.Method.{Method}
 use Rattle.program.specs.declared.method.MethodId.{MethodId}
 use Rattle.reached_methods.specs.Reached.{IsBefore}
@@ -12,19 +13,8 @@ use Rattle.linking.specs.Phases.{IsFirstRefusalOf, IsRefusalOf}
 use Rattle.linking.specs.Refusals.{IsSound}
 use Rattle.linking.specs.declared.refusal.ProgramRefusal.{ProgramRefusal}
 use Rattle.linking.specs.declared.refusal.ProgramRefusal.TheVariants.{Class, Code, Typing, Limit, Memory}
-use Rattle.linking.proofs.Typable.{there_is}
 
 -- ---- Lists
-
--- an element of a list with one more at the end
-pushed : {X : Type 0} (xs : List X) (x a : X) (k : ℕ) → slice_get (xs ++ x ∷ []) k ≡ Some a → (slice_get xs k ≡ Some a) ⊎ ((k ≡ length xs) × (x ≡ a))
-pushed [] x a zero is = inr (refl, same_Some x a is)
-pushed [] x a (suc k) is = absurd (none-some a is)
-pushed (y ∷ xs) x a zero is = inl is
-pushed (y ∷ xs) x a (suc k) is = elim (pushed xs x a k is) [
-  | inl early ↦ inl early
-  | inr last ↦ (let e = last.0 in inr (omega arith, last.1))
-]
 
 -- an element of a list's first ones
 taken : {X : Type 0} (xs : List X) (i k : ℕ) (a : X) → slice_get (take i xs) k ≡ Some a → (k < i) × (slice_get xs k ≡ Some a)

@@ -1,5 +1,5 @@
 -- What stands in a list.
-use Rattle.std.proofs.Common.{◌≡◌, ℕ, zero, suc, List, [], ◌∷◌, map, get_or, Some, slice_get, arith, refl, ◌∙◌, ◌≢◌, ap, subst, sym, inl, inr, ◌⊎◌, All, Contains}
+use Rattle.std.proofs.Common.{◌≡◌, ◌<◌, ◌++◌, ℕ, zero, suc, List, [], ◌∷◌, map, get_or, length, Some, slice_get, arith, refl, ◌∙◌, ◌≢◌, ap, subst, sym, inl, inr, ◌⊎◌, All, Contains}
 use Rattle.std.specs.List.{AllPairs}
 use Rattle.std.proofs.lemmas.Bool.{cases_lt}
 use Rattle.std.proofs.lemmas.List.{get_or_default}
@@ -87,3 +87,29 @@ one_of {X} f xs x y apart (k, within, is) (l, within', is') same = elim (cases_l
   where
     there : get_or xs l x ≡ y
     there = get_or_default xs l x y within' ∙ is'
+
+-- a list has an element at each place below its length
+pub there_is : {X : Type 0} (xs : List X) (k : ℕ) → k < length xs → (x : X) × (slice_get xs k ≡ Some x)
+there_is [] k within = absurd (omega (arith, within))
+there_is (x ∷ xs) zero within = (x, refl)
+there_is (x ∷ xs) (suc k) within = there_is xs k (omega (arith, within))
+
+-- two lists with the same elements at the same places are one
+pub same_at_places : {X : Type 0} (xs ys : List X) → length xs ≡ length ys → ((k : ℕ) (x y : X) → slice_get xs k ≡ Some x → slice_get ys k ≡ Some y → x ≡ y) → xs ≡ ys
+same_at_places [] [] size each = refl
+same_at_places [] (y ∷ ys) size each = absurd (omega (arith, size))
+same_at_places (x ∷ xs) [] size each = absurd (omega (arith, size))
+same_at_places (x ∷ xs) (y ∷ ys) size each =
+    let first = each 0 x y refl refl in
+    let rest = same_at_places xs ys (omega (arith, size)) (λ k a b a_there b_there. each (suc k) a b a_there b_there) in
+    cc
+
+-- an element of a list with one more at the end
+pub pushed : {X : Type 0} (xs : List X) (x a : X) (k : ℕ) → slice_get (xs ++ x ∷ []) k ≡ Some a → (slice_get xs k ≡ Some a) ⊎ ((k ≡ length xs) × (x ≡ a))
+pushed [] x a zero is = inr (refl, same_Some x a is)
+pushed [] x a (suc k) is = absurd (none-some a is)
+pushed (y ∷ xs) x a zero is = inl is
+pushed (y ∷ xs) x a (suc k) is = elim (pushed xs x a k is) [
+  | inl early ↦ inl early
+  | inr last ↦ (let e = last.0 in inr (omega arith, last.1))
+]

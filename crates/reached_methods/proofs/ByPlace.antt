@@ -9,11 +9,11 @@ use Rattle.std.proofs.lemmas.Bool.Decides.{nat_tests}
 use Rattle.std.proofs.lemmas.List.{get_or-map, length-map}
 use Rattle.std.proofs.lemmas.List.Sorted.{IsPermutation-keeps}
 use Rattle.std.proofs.lemmas.Option.{slice_get-get_or}
+use Rattle.program.proofs.Lists.{there_is}
 use Rattle.program.specs.declared.method.MethodId.{MethodId}
 use Rattle.reached_methods.specs.Cycles.{StandsIn}
 use Rattle.reached_methods.specs.Exploring.{AreByPlace, AreDistinct, ids_of, is_before}
 use Rattle.reached_methods.specs.Reached.{IsBefore}
-use Rattle.reached_methods.proofs.Called.{got}
 use Rattle.std.proofs.lemmas.List.Edits.{length-swap}
 use Rattle.indexmap.proofs.ReorderLemmas.{exchange, exchange-within, exchange-twice, get_or-swap}
 use Rattle.reached_methods.specs.declared.survey.Surveyed.{Surveyed}
@@ -60,13 +60,13 @@ stands_at xs id place k d by_place lt is point = elim (cases_lt k place) [
 ]
 
 first_of : (xs : List Surveyed) → 0 < length xs → Surveyed
-first_of xs lt = (got xs 0 lt).0
+first_of xs lt = (there_is xs 0 lt).0
 
 pub point_place : (xs : List Surveyed) (id : MethodId) (place : ℕ) → AreByPlace xs → (known : Contains (ids_of xs) id) →
     IsPartitionPoint (λ s. is_before s.method.id id ≡ true) (λ s. is_before s.method.id id ≡ false) xs place → known.0 ≡ place
 point_place xs id place by_place known point =
     let lt : known.0 < length xs = omega (arith, known.1, length-map xs (λ (s : Surveyed). s.method.id)) in
-    let d = (got xs known.0 lt).0 in
+    let d = (there_is xs known.0 lt).0 in
     stands_at xs id place known.0 d by_place lt (sym (get_or-map (λ (s : Surveyed). s.method.id) xs known.0 d id lt) ∙ known.2) point
 
 pub point_within : (xs : List Surveyed) (id : MethodId) (place : ℕ) → AreByPlace xs → Contains (ids_of xs) id →

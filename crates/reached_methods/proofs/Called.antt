@@ -1,5 +1,5 @@
 -- Each method that is called or made has code.
-use Rattle.std.proofs.Common.{◌≡◌, ◌<◌, ℕ, zero, suc, Bool, true, false, List, [], ◌∷◌, Option, Some, None, length, refl, sym, ap, subst, ◌∙◌, arith, ◌&&◌}
+use Rattle.std.proofs.Common.{◌≡◌, ◌<◌, ℕ, Bool, true, false, List, Option, Some, None, length, refl, sym, ap, subst, ◌∙◌, arith, ◌&&◌}
 use Rattle.std.specs.Prelude.{slice_get, if◌then◌else◌, position, nat_lt, codes}
 use Rattle.std.proofs.lemmas.Bool.Decides.{nat_tests}
 use Rattle.std.specs.List.{position_or_len}
@@ -17,6 +17,7 @@ use Rattle.class_names.specs.Members.{final_flag, body_of}
 use Rattle.class_names.specs.Names.{Reference, field_at, method_at, has_flag, text_of, is_println, is_system_out}
 use Rattle.opcodes.specs.declared.instruction.Instr.{Instr}
 use Rattle.opcodes.specs.declared.instruction.Instr.TheVariants.{Ldc, LdcW, Getstatic, Putstatic, Invokevirtual, Invokespecial, Invokestatic, New}
+use Rattle.program.proofs.Lists.{there_is}
 use Rattle.program.specs.declared.method.MethodId.{MethodId}
 use Rattle.resolution.specs.Resolution.{Resolved, Names, Unknown, Forbidden, Final, resolve, constant_named, field_named, field_of, field_of_class, own_field, field_resolved, static_call, method_of, method_of_class, own_method, method_resolved, is_callable, virtual_call, is_bare, is_writable, of_thread, of_thread_class, field_spelling, special_call, class_made, thread_made, class_place, thread_place, method_spelling}
 use Rattle.resolution.specs.Places.{is_static_named}
@@ -31,11 +32,6 @@ use Rattle.reached_methods.proofs.Codes.{coded}
 abbrev call_in : Resolved → Option MethodId
 call_in (Names (target.Call id)) = Some id
 call_in _ = None
-
-pub got : {A : Type 0} (xs : List A) (k : ℕ) → k < length xs → (x : A) × (slice_get xs k ≡ Some x)
-got [] k lt = absurd (omega (arith, lt))
-got (x ∷ xs) zero lt = (x, refl)
-got (x ∷ xs) (suc k) lt = got xs k (omega (arith, lt))
 
 last_true : (a b : Bool) → (a && b) ≡ true → b ≡ true
 last_true true b e = e
@@ -180,7 +176,7 @@ within_position class id e = within_by (is_run class.pool) class.methods id.meth
 run_code : (classes : List ClassRecord) (class_at : ℕ) (id : MethodId) → IsRunOf classes class_at id → HasCode classes id
 run_code classes class_at id run =
     let P : ℕ → Type 0 = λ n. slice_get classes n ≡ Some run.class in
-    let member = got run.class.methods id.method (within_position run.class id run.first) in
+    let member = there_is run.class.methods id.method (within_position run.class id run.first) in
     let passes = (position-Some (is_run run.class.pool) run.class.methods id.method member.0 run.first).1 in
     let test : is_run run.class.pool member.0 ≡ true = ap (is_run run.class.pool) (sym (get_or_from_slice_get run.class.methods id.method member.0 member.0 member.1)) ∙ passes in
     code_there classes id run.class member.0 (subst P (sym run.same_class) run.class_there) member.1 (coded member.0.attributes (last_true _ _ test))

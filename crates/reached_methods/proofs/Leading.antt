@@ -1,11 +1,14 @@
 -- Steps of the search for the reached methods.
 use Rattle.indexmap.specs.IndexSet.{insert_key}
-use Rattle.std.proofs.Common.{append_assoc, ◌≡◌, ◌≢◌, ◌<◌, ◌+◌, ◌++◌, ◌⊎◌, inl, inr, ℕ, Bool, true, false, List, [], ◌∷◌, Option, Some, Contains, get_or, length, take, map, refl, sym, ap, ap₂, subst, ◌∙◌, arith, ◌||◌}
-use Rattle.std.specs.Prelude.{◌↔◌, position, slice_get, if◌then◌else◌}
+use Rattle.std.proofs.Common.{append_assoc, ◌≡◌, ◌≢◌, ◌<◌, ◌≤◌, ◌+◌, ◌++◌, ◌⊎◌, inl, inr, ℕ, Bool, true, false, List, [], ◌∷◌, Option, Some, None, Contains, get_or, length, take, map, refl, sym, ap, ap₂, subst, ◌∙◌, arith, ◌||◌}
+use Rattle.std.specs.Prelude.{◌↔◌, position, slice_get, slice_index_or, if◌then◌else◌}
 use Rattle.std.specs.List.{list_any}
+use Rattle.std.specs.Option.{option_map}
+use Rattle.std.proofs.Math.Seq.{get_or-append_seam}
+use Rattle.std.proofs.lemmas.Bool.{cases_eq, cases_lt}
 use Rattle.std.proofs.lemmas.Bool.Decides.{nat_tests}
-use Rattle.std.proofs.lemmas.Option.{same_Some}
-use Rattle.std.proofs.lemmas.List.{get_or_default, take_more, map-append, append-nil}
+use Rattle.std.proofs.lemmas.Option.{none-some, same_Some, slice_get_past}
+use Rattle.std.proofs.lemmas.List.{get_or_append_left, get_or_past, get_or_default, take_more, map-append, append-nil}
 use Rattle.std.proofs.lemmas.List.Elements.{Contains-push, Contains-push_cases, Contains-append_left}
 use Rattle.std.proofs.lemmas.List.Folds.{Any-from_list_any, list_any-from_Any}
 use Rattle.std.proofs.lemmas.List.Quantifiers.{all_pairs_push}
@@ -13,7 +16,7 @@ use Rattle.class_format.specs.declared.record.ClassRecord.{ClassRecord}
 use Rattle.program.specs.declared.method.MethodId.{MethodId}
 use Rattle.reached_methods.specs.Exploring.{with_method, Follows, LeadsTo, OneLeadsTo}
 use Rattle.resolution.specs.declared.target.Target.{Target}
-use Rattle.reached_methods.specs.Reached.{IsRunOf, is_run, is_method}
+use Rattle.reached_methods.specs.Reached.{AreRuns, IsRunOf, is_run, is_method, run_in, run_of}
 
 -- ---- Methods
 
@@ -32,22 +35,47 @@ same_method a b e = ap₂ (λ (class method : ℕ). let id : MethodId = record {
 
 -- ---- The methods of threads
 
--- the first run of a class
-pub run_found : (classes : List ClassRecord) (class_at place : ℕ) (class : ClassRecord) → slice_get classes class_at ≡ Some class →
-    position (is_run class.pool) class.methods ≡ Some place → (id : MethodId) →
-    IsRunOf classes class_at id ↔ (Some (record { class = class_at; method = place }) ≡ Some id)
-run_found classes class_at place class there first id = (
-  λ run. let same = same_Some class run.class (sym there ∙ run.class_there) in
-      let P : ClassRecord → Type 0 = λ c. position (is_run c.pool) c.methods ≡ Some id.method in
-      let method : place ≡ id.method = same_Some place id.method (sym first ∙ subst P (sym same) run.first) in
-      ap₂ (λ (c m : ℕ). let made : MethodId = record { class = c; method = m } in Some made) (sym run.same_class) method,
-  λ e. let same = same_Some _ id e in record {
-    same_class = sym (ap (λ (i : MethodId). i.class) same);
-    class = class;
-    class_there = there;
-    first = first ∙ ap (λ (i : MethodId). Some i.method) same;
-  },
+-- the run of a class, as a relation and as a function
+pub run_is : (classes : List ClassRecord) (class_at : ℕ) (id : MethodId) → IsRunOf classes class_at id ↔ (run_of classes class_at ≡ Some id)
+run_is classes class_at id = (
+  λ run.
+      ap (run_in class_at) run.class_there ∙ ap (option_map (λ (m : ℕ). let made : MethodId = record { class = class_at; method = m } in made)) run.first
+      ∙ ap (λ (c : ℕ). let made : MethodId = record { class = c; method = id.method } in Some made) (sym run.same_class),
+  found (slice_get classes class_at) refl,
 )
+  where
+    placed : (class : ClassRecord) (p : Option ℕ) → slice_get classes class_at ≡ Some class → position (is_run class.pool) class.methods ≡ p →
+        option_map (λ (m : ℕ). let made : MethodId = record { class = class_at; method = m } in made) p ≡ Some id → IsRunOf classes class_at id
+    placed class None there first e = absurd (none-some id e)
+    placed class (Some place) there first e = let same = same_Some _ id e in record {
+      same_class = sym (ap (λ (i : MethodId). i.class) same);
+      class = class;
+      class_there = there;
+      first = first ∙ ap (λ (i : MethodId). Some i.method) same;
+    }
+
+    found : (o : Option ClassRecord) → slice_get classes class_at ≡ o → run_in class_at o ≡ Some id → IsRunOf classes class_at id
+    found None there e = absurd (none-some id e)
+    found (Some class) there e = placed class (position (is_run class.pool) class.methods) there refl e
+
+-- the runs of the classes so far, with one more
+pub runs_more : (classes : List ClassRecord) (ids : List (Option MethodId)) (n : ℕ) (o : Option MethodId) → length ids ≡ n →
+    ((k : ℕ) → k < n → slice_index_or ids k None ≡ run_of classes k) → o ≡ run_of classes n →
+    (k : ℕ) → k < n + 1 → slice_index_or (ids ++ o ∷ []) k None ≡ run_of classes k
+runs_more classes ids n o whole are next k within = elim (cases_eq k n) [
+  | inl same ↦ (let P : ℕ → Type 0 = λ i. slice_index_or (ids ++ o ∷ []) i None ≡ run_of classes i in
+      subst P (whole ∙ sym same) (get_or-append_seam ids o [] None ∙ next ∙ ap (run_of classes) (sym whole)))
+  | inr other ↦ (let inside : k < length ids = omega (arith, within, other, whole) in
+      get_or_append_left ids (o ∷ []) None k inside ∙ are k (omega (arith, within, other)))
+]
+
+-- the runs of all classes
+pub runs_whole : (classes : List ClassRecord) (ids : List (Option MethodId)) (n : ℕ) → length ids ≡ n → length classes ≤ n →
+    ((k : ℕ) → k < n → slice_index_or ids k None ≡ run_of classes k) → AreRuns classes ids
+runs_whole classes ids n whole all are k = elim (cases_lt k n) [
+  | inl within ↦ are k within
+  | inr beyond ↦ get_or_past ids k None (omega (arith, beyond, whole)) ∙ sym (ap (run_in k) (slice_get_past classes k (omega (arith, beyond, all))))
+]
 
 -- ---- Sets of methods
 

@@ -10,6 +10,7 @@ pub mod Called
 pub mod Steps
 pub mod ByPlace
 pub mod Searches
+pub mod Falling
 pub mod Reaches
 pub mod OneFault
 pub mod OneList

@@ -12,7 +12,7 @@ use Rattle.relations.proofs.Paths.{walked}
 use Rattle.class_format.specs.declared.record.ClassRecord.{ClassRecord}
 use Rattle.opcodes.specs.declared.instruction.Instr.{Instr}
 use Rattle.opcodes.specs.declared.listed.Listed.{Listed}
-use Rattle.program.proofs.Lists.{contains_map}
+use Rattle.program.proofs.Lists.{contains_at, contains_map, place_of}
 use Rattle.program.specs.declared.method.MethodId.{MethodId}
 use Rattle.resolution.specs.Resolution.{Resolved, Names, Unknown, Forbidden, Final, resolve}
 use Rattle.resolution.specs.declared.target.Target.{Target}
@@ -33,7 +33,7 @@ use Rattle.reached_methods.specs.declared.refusal.Detail.TheVariants.{Nothing, N
 use Rattle.reached_methods.specs.declared.survey.Surveyed.{Surveyed}
 use Rattle.reached_methods.proofs.ByPlace.{before_trans}
 use Rattle.reached_methods.proofs.FirstFaults.{merged}
-use Rattle.reached_methods.proofs.Lists.{all_at, contains_at, place_in}
+use Rattle.reached_methods.proofs.Lists.{all_at}
 use Rattle.reached_methods.proofs.Own.{listed_instruction, instruction_listed, instruction_names}
 use Rattle.reached_methods.proofs.Steps.{call_names, listed_target, target_listed}
 
@@ -119,7 +119,7 @@ is_return classes main surveys s are surveyed reached pc kind detail instr calle
     let v = surveyed.survey in
     let g : Listed → Target = λ item. target_of (resolve classes (is_method m.id main) v.class.pool item.instr) in
     let item : Listed = record { pc = pc; instr = instr } in
-    let there = place_in m.listing item (instruction_listed classes main m.id v.class v.body m.listing pc instr (Names (target.Call called)) v.code v.listing i) in
+    let there = place_of m.listing item (instruction_listed classes main m.id v.class v.body m.listing pc instr (Names (target.Call called)) v.code v.listing i) in
     let named : g item ≡ target.Call called = ap target_of (instruction_names classes main m.id v.class v.body pc instr (Names (target.Call called)) v.code i) in
     let P : List Target → Type 0 = λ ts. slice_get ts there.0 ≡ Some (target.Call called) in
     let called_reached = walked (Leads classes main) main m.id called reached (calls (record { pc = pc; instr = instr; call = i })) in
@@ -196,7 +196,7 @@ earlier_clean : (classes : List ClassRecord) (main : MethodId) (surveys : List S
 earlier_clean classes main surveys at s are by_place there clean other reached earlier =
     let found = contains_map (λ (x : Surveyed). x.method.id) surveys other (are.whole other reached) in
     let x = found.0 in
-    let place = place_in surveys x found.1 in
+    let place = place_of surveys x found.1 in
     let N : MethodId → Type 0 = λ i. HasNone (HasCodeFault classes main i) in
     elim (cases_lt place.0 at) [
       | inl lt ↦ subst N found.2 (clean_none classes main surveys x are found.1 (clean place.0 x lt place.1))

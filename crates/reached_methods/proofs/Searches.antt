@@ -20,7 +20,7 @@ use Rattle.reached_methods.specs.Cycles.{CallsBack, HasReturn, CallsIn, IsCalled
 use Rattle.reached_methods.specs.Exploring.{AreByPlace, ids_of}
 use Rattle.reached_methods.specs.Reached.{IsBefore}
 use Rattle.reached_methods.specs.declared.survey.Surveyed.{Surveyed}
-use Rattle.reached_methods.proofs.Lists.{contains_at}
+use Rattle.program.proofs.Lists.{contains_at}
 use Rattle.std.specs.Option.{option_map}
 
 stands_within : (surveys : List Surveyed) (at : ℕ) (id : MethodId) → StandsIn surveys at id → at < length surveys

@@ -4,5 +4,6 @@ pub mod FirstFault
 pub mod Surveys
 pub mod Exploring
 pub mod Cycles
+pub mod Ranks
 pub mod Reaching
 pub mod Laws

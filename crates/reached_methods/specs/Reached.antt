@@ -1,6 +1,7 @@
 -- The methods that are reached from main (docs/PROFILE.md, "Reached methods").
-use Rattle.std.specs.Prelude.{◌≡◌, ◌<◌, ◌&&◌, ◌⊎◌, ℕ, Bool, not, List, All, AllPairs, Contains, Some, codes, map, nat_eq, position, slice_get}
+use Rattle.std.specs.Prelude.{◌≡◌, ◌<◌, ◌&&◌, ◌⊎◌, ℕ, Bool, not, List, All, AllPairs, Contains, Option, Some, None, codes, map, nat_eq, position, slice_get, slice_index_or}
 use Rattle.std.specs.List.{list_any}
+use Rattle.std.specs.Option.{option_map}
 use Rattle.relations.specs.Path.{Walk}
 use Rattle.class_format.specs.ClassText.{is_code}
 use Rattle.class_format.specs.declared.record.ClassRecord.{ClassRecord}
@@ -70,6 +71,18 @@ pub record IsRunOf (classes : List ClassRecord) (class_at : ℕ) (id : MethodId)
   pub class : ClassRecord
   pub class_there : slice_get classes class_at ≡ Some class
   pub first : position (is_run class.pool) class.methods ≡ Some id.method
+
+abbrev pub run_in : ℕ → Option ClassRecord → Option MethodId
+run_in class_at (Some class) = option_map (λ method_at. record { class = class_at; method = method_at }) (position (is_run class.pool) class.methods)
+run_in class_at None = None
+
+-- the same as a function
+abbrev pub run_of : List ClassRecord → ℕ → Option MethodId
+run_of classes class_at = run_in class_at (slice_get classes class_at)
+
+-- the run()V of each class, by the place of the class
+abbrev pub AreRuns : List ClassRecord → List (Option MethodId) → Type 0
+AreRuns classes ids = (class_at : ℕ) → slice_index_or ids class_at None ≡ run_of classes class_at
 
 -- main makes a thread that runs the method
 pub record Makes (classes : List ClassRecord) (main id : MethodId) : Type 0 where

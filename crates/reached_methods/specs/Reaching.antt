@@ -6,6 +6,7 @@ use Rattle.reached_methods.specs.CodeFaults.{IsFirstCodeFault}
 use Rattle.reached_methods.specs.Cycles.{HasReturn}
 use Rattle.reached_methods.specs.FirstFault.{IsFirstOrNone, HasNone, earlier_of}
 use Rattle.reached_methods.specs.declared.fault.Fault.{Fault}
+use Rattle.reached_methods.specs.declared.method.ReachedMethod.{ReachedMethod}
 use Rattle.reached_methods.specs.declared.refusal.CodeRefusal.{CodeRefusal}
 use Rattle.reached_methods.specs.declared.refusal.CodeRefusal.TheVariants.{Refused, Memory}
 use Rattle.reached_methods.specs.declared.survey.Surveyed.{Surveyed}
@@ -13,6 +14,12 @@ use Rattle.reached_methods.specs.declared.survey.Surveyed.{Surveyed}
 -- each listed instruction has what it names
 pub record HasAllTargets (s : Surveyed) : Type 0 where
   pub same_length : length s.method.targets ≡ length s.method.listing
+
+-- the method was surveyed at this place
+pub record IsSurveyedAt (surveys : List Surveyed) (at : ℕ) (m : ReachedMethod) : Type 0 where
+  pub surveyed : Surveyed
+  pub there : slice_get surveys at ≡ Some surveyed
+  pub method_is : surveyed.method ≡ m
 
 -- the method has no fault of its own, and no call of it leads back
 pub record IsClean (surveys : List Surveyed) (s : Surveyed) : Type 0 where

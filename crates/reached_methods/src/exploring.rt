@@ -8,7 +8,7 @@ ghost use Rattle.reached_methods.specs.Surveys.{HasCode};
 
 use crate::adding::push;
 use crate::method_set::MethodSet;
-use crate::runs::next_method;
+use crate::runs::{Runs, next_method};
 use crate::survey::{Surveyed, is_method, survey};
 use class_format::ClassRecord;
 use ports::Memory;
@@ -18,15 +18,14 @@ use std::alloc::Global;
 
 /// Adds the method that an instruction leads to.
 fn follow_one(
-    classes: &[ClassRecord],
+    runs: &Runs,
     in_main: bool,
     target: Target,
     seen: &mut MethodSet,
 ) -> Result<(), Memory>
-    requires { All IsValid classes.now }
-    ensures { OnOk result (Follows (LeadsTo classes.now in_main target) seen.old seen.new) }
+    ensures { OnOk result (Follows (LeadsTo runs.now.classes.now in_main target) seen.old seen.new) }
 {
-    if let Some(id) = next_method(classes, in_main, target) {
+    if let Some(id) = next_method(runs, in_main, target) {
         seen.add(id)?;
     }
     Ok(())
@@ -34,16 +33,15 @@ fn follow_one(
 
 /// Adds the methods that the instructions of a method lead to.
 fn follow(
-    classes: &[ClassRecord],
+    runs: &Runs,
     in_main: bool,
     targets: &[Target],
     seen: &mut MethodSet,
 ) -> Result<(), Memory>
-    requires { All IsValid classes.now }
-    ensures { OnOk result (Follows (OneLeadsTo classes.now in_main targets.now) seen.old seen.new) }
+    ensures { OnOk result (Follows (OneLeadsTo runs.now.classes.now in_main targets.now) seen.old seen.new) }
 {
     for target in targets {
-        follow_one(classes, in_main, *target, seen)?;
+        follow_one(runs, in_main, *target, seen)?;
     }
     Ok(())
 }
@@ -52,10 +50,12 @@ fn follow(
 fn explore(
     alloc: Global,
     index: &ClassIndex,
+    runs: &Runs,
     classes: &[ClassRecord],
     main: MethodId,
 ) -> Result<Vec<Surveyed>, Memory>
     requires index { index.now.classes.now ≡ classes.now }
+    requires runs { runs.now.classes.now ≡ classes.now }
     requires texts { All IsValid classes.now }
     requires main { HasCode classes.now main }
     ensures surveys { IfOk result (λ surveys. AreSurveys classes.now main surveys.items) }
@@ -67,12 +67,7 @@ fn explore(
     while let Some(id) = seen.get(surveys.len()) {
         let surveyed = survey(alloc, index, classes, main, id)?;
         let in_main = is_method(id, main);
-        follow(
-            classes,
-            in_main,
-            surveyed.method.targets.as_slice(),
-            &mut seen,
-        )?;
+        follow(runs, in_main, surveyed.method.targets.as_slice(), &mut seen)?;
         push(&mut surveys, surveyed)?;
     }
     Ok(surveys)
@@ -100,7 +95,8 @@ pub fn survey_all(
     ensures surveys { IfOk result (λ surveys. AreSurveys classes.now main surveys.items) }
     ensures by_place { IfOk result (λ surveys. AreByPlace surveys.items) }
 {
-    let mut surveys = explore(alloc, index, classes, main)?;
+    let runs = Runs::of(alloc, classes)?;
+    let mut surveys = explore(alloc, index, &runs, classes, main)?;
     sort(&mut surveys);
     Ok(surveys)
 }

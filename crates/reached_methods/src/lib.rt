@@ -3,6 +3,7 @@
 
 mod adding;
 mod code;
+mod components;
 mod cycles;
 mod exploring;
 mod fault;
@@ -12,6 +13,7 @@ mod method;
 mod method_set;
 mod naming;
 mod places;
+mod ranks;
 mod reaching;
 mod reading;
 mod refusal;
@@ -22,6 +24,7 @@ pub use laws::{no_first_fault, one_first_fault, one_list};
 pub use method::ReachedMethod;
 pub use reaching::reach;
 pub use refusal::{CodeKind, CodeRefusal, Detail};
+pub use runs::Runs;
 
 #[cfg(test)]
 mod tests;

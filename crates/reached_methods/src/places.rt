@@ -8,7 +8,7 @@ use crate::survey::Surveyed;
 use program::MethodId;
 
 /// Whether a method stands before another: in an earlier class, or earlier in one class.
-fn is_before(a: MethodId, b: MethodId) -> bool
+pub fn is_before(a: MethodId, b: MethodId) -> bool
     ensures { result ≡ is_before a b }
 {
     a.class < b.class || a.class == b.class && a.method < b.method

@@ -1,20 +1,24 @@
 //! The reached methods, or the first fault of them all.
 
-ghost use Rattle.std.specs.Prelude.{◌≡◌, ◌≤◌, All, IfErr, IfOk, IsTrue, MatchOption, OnOk, length, map};
+ghost use Rattle.std.specs.Prelude.{◌≡◌, ◌≤◌, All, IfErr, IfOk, IfSome, MatchOption, OnOk, length, map};
 ghost use Rattle.class_format.specs.ClassText.{IsValid};
 ghost use Rattle.class_format.specs.declared.record.ClassRecord.{ClassRecord};
 ghost use Rattle.class_format.specs.declared.record.CodeBody.{CodeBody};
 ghost use Rattle.reached_methods.specs.CodeFaults.{IsFaultless};
-ghost use Rattle.reached_methods.specs.Cycles.{AreClosed};
+ghost use Rattle.reached_methods.specs.Cycles.{AreClosed, HasReturn};
 ghost use Rattle.reached_methods.specs.Exploring.{AreByPlace, AreSurveys};
+ghost use Rattle.reached_methods.specs.FirstFault.{IsFirstOrNone};
+ghost use Rattle.reached_methods.specs.Ranks.{NoneRises};
 ghost use Rattle.reached_methods.specs.Reached.{AreReachedMethods};
-ghost use Rattle.reached_methods.specs.Reaching.{HasAllTargets, IsClean, IsFirstFaulty, IsRefusedFor};
+ghost use Rattle.reached_methods.specs.Reaching.{HasAllTargets, IsClean, IsFirstFaulty, IsRefusedFor, IsSurveyedAt};
 ghost use Rattle.reached_methods.specs.Surveys.{HasCode};
 
+use crate::components::components_of;
 use crate::cycles::first_return;
 use crate::exploring::survey_all;
 use crate::fault::{Fault, earlier};
 use crate::method::ReachedMethod;
+use crate::ranks::{all_fall_by, none_rises};
 use crate::refusal::CodeRefusal;
 use crate::survey::Surveyed;
 use class_format::ClassRecord;
@@ -30,20 +34,63 @@ struct Faulty {
     recursion: Option<Fault>,
 }
 
-/// The first method with a fault.
-fn first_faulty(alloc: Global, surveys: &[Surveyed]) -> Result<Option<Faulty>, Memory>
+/// The first call of the method at this place that leads back to it. Where the ranks fall with each of its calls, there is none.
+fn recursion_at(
+    alloc: Global,
+    surveys: &[Surveyed],
+    ranks: Option<&[usize]>,
+    at: usize,
+    method: &ReachedMethod,
+) -> Result<Option<Fault>, Memory>
     requires by_place { AreByPlace surveys.now }
     requires closed { AreClosed surveys.now }
+    requires ranks { IfSome ranks (λ ranks. NoneRises surveys.now ranks.now) }
+    requires surveyed { IsSurveyedAt surveys.now at method.now }
+    requires same_length { length method.now.targets ≡ length method.now.listing }
+    ensures { IfOk result (λ fault. IsFirstOrNone (HasReturn surveys.now method.now) fault) }
+{
+    if let Some(ranks) = ranks {
+        if all_fall_by(surveys, ranks, at, 1) {
+            return Ok(None);
+        }
+    }
+    first_return(alloc, surveys, method)
+}
+
+/// The first method with a fault.
+fn first_faulty(
+    alloc: Global,
+    surveys: &[Surveyed],
+    ranks: Option<&[usize]>,
+) -> Result<Option<Faulty>, Memory>
+    requires by_place { AreByPlace surveys.now }
+    requires closed { AreClosed surveys.now }
+    requires ranks { IfSome ranks (λ ranks. NoneRises surveys.now ranks.now) }
     requires same_lengths { All HasAllTargets surveys.now }
     ensures { IfOk result (λ found. MatchOption found (All (IsClean surveys.now) surveys.now) (λ f. IsFirstFaulty surveys.now f.at f.recursion)) }
 {
     for (at, surveyed) in surveys.iter().enumerate() {
-        let recursion = first_return(alloc, surveys, &surveyed.method)?;
+        let recursion = recursion_at(alloc, surveys, ranks, at, &surveyed.method)?;
         if surveyed.fault.is_some() || recursion.is_some() {
             return Ok(Some(Faulty { at, recursion }));
         }
     }
     Ok(None)
+}
+
+/// The first method with a fault. The components of the calls are found first, to rank the methods.
+fn find_faulty(alloc: Global, surveys: &[Surveyed]) -> Result<Option<Faulty>, Memory>
+    requires by_place { AreByPlace surveys.now }
+    requires closed { AreClosed surveys.now }
+    requires same_lengths { All HasAllTargets surveys.now }
+    ensures { IfOk result (λ found. MatchOption found (All (IsClean surveys.now) surveys.now) (λ f. IsFirstFaulty surveys.now f.at f.recursion)) }
+{
+    let ranks = components_of(alloc, surveys)?;
+    if none_rises(surveys, ranks.as_slice()) {
+        first_faulty(alloc, surveys, Some(ranks.as_slice()))
+    } else {
+        first_faulty(alloc, surveys, None)
+    }
 }
 
 /// The methods that were surveyed.
@@ -101,7 +148,7 @@ fn judge(
     ensures faultless { OnOk result (IsFaultless classes.now main) }
     ensures refused { IfErr result (λ refusal. IsRefusedFor classes.now main refusal) }
 {
-    match first_faulty(alloc, surveys.as_slice()) {
+    match find_faulty(alloc, surveys.as_slice()) {
         Ok(Some(faulty)) => Err(refusal(classes, main, surveys, faulty)),
         Ok(None) => match methods_of(alloc, surveys) {
             Ok(methods) => Ok(methods),

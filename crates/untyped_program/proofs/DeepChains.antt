@@ -5,6 +5,7 @@ use Rattle.std.proofs.lemmas.List.{get_or-map, get_or-set_same, get_or-set_other
 use Rattle.std.proofs.lemmas.List.Elements.{All-contains, All-cons, All-head, All-tail, All-map, All-weaker}
 use Rattle.std.proofs.lemmas.List.Sums.{sum_by-cons}
 use Rattle.std.proofs.lemmas.Option.{slice_get_within, slice_get_read, get_or_from_slice_get, same_Some}
+use Rattle.program.proofs.Lists.{there_is}
 use Rattle.typing.specs.declared.untyped.UntypedMethod.{UntypedMethod}
 use Rattle.untyped_program.specs.Edges.{AreRaised, AreSteady, cut, through, is_less, raised, edges_from, IsAmong}
 use Rattle.untyped_program.specs.Edges.AreRaised.{same, more}
@@ -12,7 +13,6 @@ use Rattle.untyped_program.specs.Limits.{slots_of, CallsMethod, IsChain, HasDeep
 use Rattle.untyped_program.specs.declared.edges.Edge.{Edge}
 use Rattle.untyped_program.proofs.CallEdges.{IsEdge, all_edges, call_is_edge, among}
 use Rattle.untyped_program.proofs.Sums.{less_raised, other_raised, length-raised, small_raised}
-use Rattle.untyped_program.proofs.Spelt.{there_is}
 
 abbrev get_or_of : List ℕ → ℕ → ℕ
 get_or_of xs k = get_or xs k 0

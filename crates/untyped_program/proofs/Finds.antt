@@ -1,10 +1,8 @@
 -- The first element that passes a test.
-use Rattle.std.proofs.Common.{◌≡◌, ◌<◌, ◌+◌, ◌↔◌, ℕ, zero, suc, Bool, true, false, cond, List, [], ◌∷◌, Option, Some, None, IsTrue, Any, find, length, get_or, take, refl, sym, ap, ◌∙◌, arith}
-use Rattle.std.specs.List.{list_any}
-use Rattle.std.proofs.lemmas.Bool.{false≢true}
+use Rattle.std.proofs.Common.{◌≡◌, ◌<◌, ◌+◌, ℕ, zero, suc, Bool, true, false, cond, List, [], ◌∷◌, Option, Some, None, find, length, get_or, take, refl, sym, ap, ◌∙◌, arith}
 use Rattle.std.specs.Option.{option_or}
 use Rattle.std.proofs.lemmas.List.{take_more}
-use Rattle.std.proofs.lemmas.List.Folds.{find-append, Any-from_list_any, list_any-from_Any}
+use Rattle.std.proofs.lemmas.List.Folds.{find-append}
 
 pub find_here : {X : Type 0} (p : X → Bool) (xs : List X) (i : ℕ) (d : X) → i < length xs → find p (take i xs) ≡ None → p (get_or xs i d) ≡ true → find p xs ≡ Some (get_or xs i d)
 find_here p [] i d within none is = absurd (omega arith)
@@ -20,12 +18,3 @@ pub find_later : {X : Type 0} (p : X → Bool) (xs : List X) (i : ℕ) (d : X) �
 find_later p xs i d within none fails =
     ap (find p) (take_more xs i d within) ∙ find-append p (take i xs) (get_or xs i d ∷ [])
     ∙ ap (λ (o : Option _). option_or o (find p (get_or xs i d ∷ []))) none ∙ ap (λ (b : Bool). cond b (Some (get_or xs i d)) None) fails
-
--- a test that tells whether an element passes
-pub tells_any : {X : Type 0} (b : Bool) (p : X → Bool) (xs : List X) → (IsTrue b ↔ Any (λ x. p x ≡ true) xs) → b ≡ list_any p xs
-tells_any b p xs tells = go b (list_any p xs) refl refl
-  where
-    go : (x y : Bool) → b ≡ x → list_any p xs ≡ y → b ≡ list_any p xs
-    go true y is other = is ∙ sym (list_any-from_Any p xs (tells.0 is))
-    go false false is other = is ∙ sym other
-    go false true is other = absurd (false≢true (sym is ∙ tells.1 (Any-from_list_any p xs other)))

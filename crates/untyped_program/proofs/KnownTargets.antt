@@ -22,7 +22,7 @@ use Rattle.class_profile.specs.Threads.{IsRun}
 use Rattle.class_profile.specs.declared.refusal.ClassKind.TheVariants.{FieldType, ThreadClass, NameForm}
 use Rattle.opcodes.specs.declared.instruction.Instr.{Instr}
 use Rattle.opcodes.specs.declared.instruction.Instr.TheVariants.{IconstM1, Iconst0, Iconst1, Iconst2, Iconst3, Iconst4, Iconst5, Bipush, Sipush, Ldc, LdcW, Getstatic, Putstatic, Invokevirtual, Invokespecial, Invokestatic, New}
-use Rattle.reached_methods.specs.Reached.{is_run}
+use Rattle.reached_methods.specs.Reached.{is_run, run_in, run_of}
 use Rattle.resolution.specs.Resolution.{Resolved, Names, Unknown, Forbidden, Final, resolve, class_place, extends_thread, thread_at, thread_place, field_resolved, own_field, field_of_class, field_of, field_named, is_callable, method_resolved, own_method, method_of_class, method_of, static_call, is_bare, of_thread_class, of_thread, virtual_call, special_call, thread_made, class_made, constant_named, is_writable, method_spelling}
 use Rattle.resolution.specs.Places.{is_static_named}
 use Rattle.resolution.specs.Signatures.{signature_of}
@@ -33,7 +33,6 @@ use Rattle.program.specs.Names.{IsName}
 use Rattle.program.specs.declared.method.MethodId.{MethodId}
 use Rattle.untyped_program.specs.Known.{IsKnown, IsKnownField}
 use Rattle.untyped_program.specs.Methods.{signature_at, signature_in, signature_of_member}
-use Rattle.untyped_program.specs.Threads.{run_of, run_in}
 
 -- ---- Words
 

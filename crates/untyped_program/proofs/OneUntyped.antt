@@ -1,6 +1,7 @@
 -- Reached methods make at most one program.
-use Rattle.std.proofs.Common.{◌≡◌, ℕ, suc, List, [], ◌∷◌, Some, map, length, slice_get, refl, sym, ap, ◌∙◌, arith}
+use Rattle.std.proofs.Common.{◌≡◌, ℕ, List, [], ◌∷◌, Some, map, slice_get, refl, sym, ap, ◌∙◌, arith}
 use Rattle.std.proofs.lemmas.Option.{same_Some, slice_get_within}
+use Rattle.program.proofs.Lists.{same_at_places, there_is}
 use Rattle.class_format.specs.declared.record.ClassRecord.{ClassRecord}
 use Rattle.class_format.specs.declared.record.CodeBody.{CodeBody}
 use Rattle.class_format.specs.declared.record.Member.{Member}
@@ -21,7 +22,6 @@ use Rattle.untyped_program.specs.Monitors.{monitors_of}
 use Rattle.untyped_program.specs.Untyped.{AreUntyped}
 use Rattle.untyped_program.specs.Variables.{number_of}
 use Rattle.untyped_program.specs.declared.untyped.UntypedProgram.{UntypedProgram}
-use Rattle.untyped_program.proofs.Spelt.{there_is}
 
 same_listed : {X : Type 0} (xs ys : List X) → map Some xs ≡ map Some ys → xs ≡ ys
 same_listed [] [] same = refl
@@ -31,15 +31,6 @@ same_listed (x ∷ xs) (y ∷ ys) same =
     let first : x ≡ y = cc in
     let tails : map Some xs ≡ map Some ys = cc in
     let rest = same_listed xs ys tails in
-    cc
-
-same_lists : {X : Type 0} (xs ys : List X) → length xs ≡ length ys → ((k : ℕ) (x y : X) → slice_get xs k ≡ Some x → slice_get ys k ≡ Some y → x ≡ y) → xs ≡ ys
-same_lists [] [] size each = refl
-same_lists [] (y ∷ ys) size each = absurd (omega (arith, size))
-same_lists (x ∷ xs) [] size each = absurd (omega (arith, size))
-same_lists (x ∷ xs) (y ∷ ys) size each =
-    let first = each 0 x y refl refl in
-    let rest = same_lists xs ys (omega (arith, size)) (λ k a b a_there b_there. each (suc k) a b a_there b_there) in
     cc
 
 one_method : (i j : MethodId) (e f : Entry) (x y : Frame) (l n : List Listed) (s t : List Symbol) → i ≡ j → e ≡ f → x ≡ y → l ≡ n → s ≡ t →
@@ -70,7 +61,7 @@ module _ (classes : List ClassRecord) (main : MethodId) (number : ℕ → ℕ �
       one_method u.id v.id u.entry v.entry u.frame v.frame u.listing v.listing u.symbols v.symbols (is.id ∙ sym other.id) entry frame (is.listing ∙ sym other.listing) symbols
 
   same_methods : (methods : List ReachedMethod) (us vs : List UntypedMethod) → AreUntyped classes main number monitors methods us → AreUntyped classes main number monitors methods vs → us ≡ vs
-  same_methods methods us vs are others = same_lists us vs (are.same_length ∙ sym others.same_length) each
+  same_methods methods us vs are others = same_at_places us vs (are.same_length ∙ sym others.same_length) each
     where
       each : (k : ℕ) (u v : UntypedMethod) → slice_get us k ≡ Some u → slice_get vs k ≡ Some v → u ≡ v
       each k u v u_there v_there =

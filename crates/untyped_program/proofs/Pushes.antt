@@ -1,23 +1,14 @@
 -- One more element at the end of two lists that go together.
-use Rattle.std.proofs.Common.{◌≡◌, ◌<◌, ◌+◌, ◌++◌, ◌⊎◌, ℕ, zero, suc, List, [], ◌∷◌, Some, length, get_or, take, slice_get, refl, sym, ap, ◌∙◌, subst, arith, inl, inr, length-append}
+use Rattle.std.proofs.Common.{◌≡◌, ◌<◌, ◌+◌, ◌++◌, ◌⊎◌, ℕ, List, [], ◌∷◌, Some, length, get_or, take, slice_get, sym, ap, ◌∙◌, subst, arith, inl, inr, length-append}
 use Rattle.std.proofs.lemmas.List.{take_more}
-use Rattle.std.proofs.lemmas.Option.{none-some, same_Some, slice_get_within}
+use Rattle.std.proofs.lemmas.Option.{slice_get_within}
+use Rattle.program.proofs.Lists.{pushed}
 use Rattle.class_format.specs.declared.record.ClassRecord.{ClassRecord}
 use Rattle.program.specs.declared.method.MethodId.{MethodId}
 use Rattle.reached_methods.specs.declared.method.ReachedMethod.{ReachedMethod}
 use Rattle.typing.specs.declared.untyped.UntypedMethod.{UntypedMethod}
 use Rattle.untyped_program.specs.Methods.{IsUntypedMethod}
 use Rattle.untyped_program.specs.Untyped.{AreUntyped}
-
--- an element of a list with one more at the end
-pushed : {X : Type 0} (xs : List X) (x a : X) (k : ℕ) → slice_get (xs ++ x ∷ []) k ≡ Some a → (slice_get xs k ≡ Some a) ⊎ ((k ≡ length xs) × (x ≡ a))
-pushed [] x a zero is = inr (refl, same_Some x a is)
-pushed [] x a (suc k) is = absurd (none-some a is)
-pushed (y ∷ xs) x a zero is = inl is
-pushed (y ∷ xs) x a (suc k) is = elim (pushed xs x a k is) [
-  | inl early ↦ inl early
-  | inr last ↦ (let e = last.0 in inr (omega arith, last.1))
-]
 
 module _ (classes : List ClassRecord) (main : MethodId) (number : ℕ → ℕ → ℕ) (monitors : List (List ℕ)) where
   more : (methods : List ReachedMethod) (untyped : List UntypedMethod) (m : ReachedMethod) (u : UntypedMethod) → AreUntyped classes main number monitors methods untyped →

@@ -1,9 +1,10 @@
 -- The names of variables can be written, and the methods stand by place.
-use Rattle.std.proofs.Common.{◌≡◌, ◌<◌, ◌+◌, ◌&&◌, ℕ, zero, suc, Bool, true, false, cond, List, [], ◌∷◌, Some, All, AllPairs, Any, length, get_or, eqb, slice_get, refl, sym, ap, ◌∙◌, subst, arith, add-zero}
+use Rattle.std.proofs.Common.{◌≡◌, ◌+◌, ◌&&◌, ℕ, suc, Bool, true, false, cond, List, [], ◌∷◌, Some, All, AllPairs, Any, get_or, eqb, slice_get, refl, sym, ap, ◌∙◌, subst, arith, add-zero}
 use Rattle.std.proofs.lemmas.Bool.{false≢true, eqb-true}
 use Rattle.std.proofs.lemmas.List.Elements.{All-nil, All-cons, All-append}
 use Rattle.std.proofs.lemmas.List.Folds.{Any-from_list_any}
 use Rattle.std.proofs.lemmas.Option.{same_Some, get_or_from_slice_get}
+use Rattle.program.proofs.Lists.{there_is}
 use Rattle.class_format.specs.declared.record.ClassRecord.{ClassRecord}
 use Rattle.class_format.specs.declared.record.Member.{Member}
 use Rattle.program.specs.Program.{IsSpeltVariable}
@@ -86,11 +87,6 @@ module _ (classes : List ClassRecord) (main : MethodId) (methods : List ReachedM
           subst (λ (x : ClassRecord). IsSpeltVariable (variable_of x f)) same_class (subst (λ (x : Member). IsSpeltVariable (variable_of field.class x)) same_field field.spelt)
 
 -- ---- Places
-
-pub there_is : {X : Type 0} (xs : List X) (k : ℕ) → k < length xs → (x : X) × (slice_get xs k ≡ Some x)
-there_is [] k within = absurd (omega arith)
-there_is (x ∷ xs) zero within = (x, refl)
-there_is (x ∷ xs) (suc k) within = there_is xs k (omega arith)
 
 pub stay_by_place : (classes : List ClassRecord) (main : MethodId) (number : ℕ → ℕ → ℕ) (monitors : List (List ℕ)) (methods : List ReachedMethod) (untyped : List UntypedMethod) →
     AllPairs (λ a b. IsBefore a.id b.id) methods → AreUntyped classes main number monitors methods untyped → AreByPlace untyped

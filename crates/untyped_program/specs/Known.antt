@@ -8,13 +8,12 @@ use Rattle.class_names.specs.Names.{class_name_of}
 use Rattle.class_names.specs.Members.{member_descriptor, body_of}
 use Rattle.program.specs.declared.method.MethodId.{MethodId}
 use Rattle.program.specs.Program.{IsSpeltVariable}
-use Rattle.reached_methods.specs.Reached.{IsMethodAt, is_method}
+use Rattle.reached_methods.specs.Reached.{IsMethodAt, is_method, run_of}
 use Rattle.reached_methods.specs.declared.method.ReachedMethod.{ReachedMethod}
 use Rattle.resolution.specs.declared.target.Target.{Target}
 use Rattle.resolution.specs.declared.target.Target.TheVariants as target
 use Rattle.untyped_program.specs.Methods.{entry_of, signature_by, signature_at}
 use Rattle.untyped_program.specs.Monitors.{monitor_number}
-use Rattle.untyped_program.specs.Threads.{run_of}
 use Rattle.untyped_program.specs.Variables.{variable_of}
 
 -- the field at this place of the class at this place, whose names can be written

@@ -1,10 +1,9 @@
 -- The threads: main, and the run()V of each class that main makes a thread of (docs/MODEL.md, "The program of the classes").
-use Rattle.std.specs.Prelude.{ℕ, List, [], ◌∷◌, Option, Some, None, find, map, position, slice_get}
+use Rattle.std.specs.Prelude.{ℕ, List, [], ◌∷◌, Option, Some, None, find, map}
 use Rattle.std.specs.List.{filter_map}
-use Rattle.std.specs.Option.{option_map}
 use Rattle.class_format.specs.declared.record.ClassRecord.{ClassRecord}
 use Rattle.program.specs.declared.method.MethodId.{MethodId}
-use Rattle.reached_methods.specs.Reached.{is_method, is_run}
+use Rattle.reached_methods.specs.Reached.{is_method, run_of}
 use Rattle.reached_methods.specs.declared.method.ReachedMethod.{ReachedMethod}
 use Rattle.resolution.specs.declared.target.Target.{Target}
 use Rattle.resolution.specs.declared.target.Target.TheVariants as target
@@ -21,14 +20,6 @@ targets_in None = []
 -- what the instructions of main name
 abbrev pub main_targets : MethodId → List ReachedMethod → List Target
 main_targets main methods = targets_in (find (λ m. is_method m.id main) methods)
-
-abbrev pub run_in : ℕ → Option ClassRecord → Option MethodId
-run_in class_at (Some class) = option_map (λ method_at. record { class = class_at; method = method_at }) (position (is_run class.pool) class.methods)
-run_in class_at None = None
-
--- the run()V of the class at a place
-abbrev pub run_of : List ClassRecord → ℕ → Option MethodId
-run_of classes class_at = run_in class_at (slice_get classes class_at)
 
 -- main, and the run()V of the class at each new of main, by place
 abbrev pub threads_of : List ClassRecord → MethodId → List ReachedMethod → List (Option MethodId)

@@ -1,6 +1,7 @@
 -- Class files that are told and make a program meet no refusal, and make no other program.
-use Rattle.std.proofs.Common.{◌≡◌, ◌<◌, ◌≤◌, ◌+◌, ◌-◌, ℕ, zero, suc, List, [], ◌∷◌, Option, Some, IfSome, length, slice_get, subst, refl, arith}
+use Rattle.std.proofs.Common.{◌≡◌, ◌<◌, ◌≤◌, ◌+◌, ◌-◌, ℕ, List, Option, Some, IfSome, length, slice_get, subst, arith}
 use Rattle.std.proofs.lemmas.Option.{slice_get_within}
+use Rattle.program.proofs.Lists.{same_at_places, there_is}
 use Rattle.class_files.specs.Input.{AreClassFiles, Contents, IsLinked, IsMisformed, IsTooLong, IsUnlinked, WhereTold, limit}
 use Rattle.class_files.specs.declared.linked.Linked.{Linked}
 use Rattle.class_format.specs.ClassText.{ClassText}
@@ -15,20 +16,6 @@ use Rattle.linking.specs.declared.refusal.ProgramRefusal.TheVariants as program
 use Rattle.verdict.specs.Answers.{IsLimited, by_bytes, by_limit, LinksWell, RefusesFormat, RefusesProgram, TellsFile}
 use Rattle.verdict.specs.Commands.{NamesClasses}
 
-same_lists : {X : Type 0} (xs ys : List X) → length xs ≡ length ys → ((k : ℕ) (x y : X) → slice_get xs k ≡ Some x → slice_get ys k ≡ Some y → x ≡ y) → xs ≡ ys
-same_lists [] [] size each = refl
-same_lists [] (y ∷ ys) size each = absurd (omega (arith, size))
-same_lists (x ∷ xs) [] size each = absurd (omega (arith, size))
-same_lists (x ∷ xs) (y ∷ ys) size each =
-    let first = each 0 x y refl refl in
-    let rest = same_lists xs ys (omega (arith, size)) (λ k a b a_there b_there. each (suc k) a b a_there b_there) in
-    cc
-
-there_is : {X : Type 0} (xs : List X) (k : ℕ) → k < length xs → (x : X) × (slice_get xs k ≡ Some x)
-there_is [] k within = absurd (omega (arith, within))
-there_is (x ∷ xs) zero within = (x, refl)
-there_is (x ∷ xs) (suc k) within = there_is xs k (omega (arith, within))
-
 -- what holds of a told file's bytes
 at_told : (words : List (List ℕ)) (old : Contents) (word : ℕ) (Holds : List ℕ → Type 0) (t : TellsFile words old word) → WhereTold words old word Holds → Holds t.bytes
 at_told words old word Holds t holds =
@@ -37,7 +24,7 @@ at_told words old word Holds t holds =
 
 module _ (words : List (List ℕ)) (old : Contents) (from : ℕ) (linked : Linked) (links : LinksWell words old from linked) where
   same_classes : OneRecord → (classes : List ClassRecord) → AreClassFiles words old from classes → classes ≡ linked.classes
-  same_classes one classes are = same_lists classes linked.classes (let a = are.many in let b = links.is_linked.files.many in omega (arith, a, b)) each
+  same_classes one classes are = same_at_places classes linked.classes (let a = are.many in let b = links.is_linked.files.many in omega (arith, a, b)) each
     where
       each : (k : ℕ) (x y : ClassRecord) → slice_get classes k ≡ Some x → slice_get linked.classes k ≡ Some y → x ≡ y
       each k x y x_there y_there =

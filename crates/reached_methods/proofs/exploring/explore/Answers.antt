@@ -26,7 +26,7 @@ loop-id-preserved c =
     let P : List Surveyed → Type 0 = λ surveys. IsExploring c.args.classes.now c.args.main c.follow.new.seen surveys in
     subst P (sym c.in_ok-push.ensures)
     (explored_more c.args.classes.now c.args.main c.loop-id.seen c.follow.new.seen c.loop-id.surveys.items c.in_ok-surveyed.surveyed c.in-Some.id c.loop-id.invariant there
-    c.in_ok-surveyed.ensures.id c.in_ok-surveyed.ensures.surveyed (subst₂ F c.is_method-in_main.ensures.value c.as_slice.ensures c.in_ok-follow.ensures))
+    c.in_ok-surveyed.ensures.id c.in_ok-surveyed.ensures.surveyed (subst₂ F c.is_method-in_main.ensures.value c.as_slice.ensures (rw c.requires.runs at c.in_ok-follow.ensures)))
 
 pub returns-clause-surveys : goal.returns-clause-surveys
 returns-clause-surveys c = explored_all c.args.classes.now c.args.main c.loop-id.seen c.loop-id.surveys.items c.loop-id.invariant

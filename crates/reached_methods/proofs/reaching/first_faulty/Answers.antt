@@ -1,14 +1,12 @@
 use Rattle.std.proofs.Common.{refl}
 use Rattle.std.proofs.lemmas.Option.{slice_get_read}
-use Rattle.reached_methods.proofs.Lists.{contains_at}
 use Rattle.reached_methods.proofs.Reaches.{clean_more, none_of}
 use Rattle.reached_methods.proofs.reaching.first_faulty.Goals as goal
 
-pub first_return-requires-clause-known : goal.first_return-requires-clause-known
-first_return-requires-clause-known c = λ called call.
+pub recursion_at-requires-clause-surveyed : goal.recursion_at-requires-clause-surveyed
+recursion_at-requires-clause-surveyed c =
     let s = c.index-surveys-at.result in
-    c.requires.closed.closed s.method.id called
-    (record { surveyed = s; there = contains_at c.args.surveys.now c.loop-at.at s (slice_get_read c.args.surveys.now _ c.loop-at.at s refl c.loop-at-test.true c.index-surveys-at.is); caller_is = refl; call = call })
+    record { surveyed = s; there = slice_get_read c.args.surveys.now _ c.loop-at.at s refl c.loop-at-test.true c.index-surveys-at.is; method_is = refl }
 
 pub loop-at-preserved : goal.loop-at-preserved
 loop-at-preserved c =

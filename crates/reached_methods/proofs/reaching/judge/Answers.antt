@@ -6,11 +6,11 @@ use Rattle.reached_methods.specs.declared.survey.Surveyed.{Surveyed}
 use Rattle.reached_methods.proofs.Reaches.{all_clean, all_targets, closed_surveys, reached_methods}
 use Rattle.reached_methods.proofs.reaching.judge.Goals as goal
 
-pub first_faulty-requires-clause-closed : goal.first_faulty-requires-clause-closed
-first_faulty-requires-clause-closed c = subst AreClosed (sym c.as_slice.ensures.value) (closed_surveys c.args.classes.now c.args.main c.args.surveys.items c.requires.surveys)
+pub find_faulty-requires-clause-closed : goal.find_faulty-requires-clause-closed
+find_faulty-requires-clause-closed c = subst AreClosed (sym c.as_slice.ensures.value) (closed_surveys c.args.classes.now c.args.main c.args.surveys.items c.requires.surveys)
 
-pub first_faulty-requires-clause-same_lengths : goal.first_faulty-requires-clause-same_lengths
-first_faulty-requires-clause-same_lengths c =
+pub find_faulty-requires-clause-same_lengths : goal.find_faulty-requires-clause-same_lengths
+find_faulty-requires-clause-same_lengths c =
     let P : List Surveyed → Type 0 = All HasAllTargets in
     subst P (sym c.as_slice.ensures.value) (all_targets c.args.classes.now c.args.main c.args.surveys.items c.requires.surveys)
 
