@@ -7,8 +7,6 @@ mod execution;
 pub mod laws;
 mod lists;
 mod sequence;
-#[cfg(test)]
-mod tests;
 
 pub use action::{Action, ActionOperand, ActionRef, Entry, Note};
 pub use execution::{Execution, ThreadPart};

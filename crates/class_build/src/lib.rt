@@ -7,6 +7,3 @@ mod fields;
 mod pool;
 
 pub use classes::write_class;
-
-#[cfg(test)]
-mod tests;

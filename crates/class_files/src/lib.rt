@@ -8,8 +8,6 @@ mod file_refusal;
 mod linked;
 mod linker;
 mod refusal;
-#[cfg(test)]
-mod tests;
 mod whole_file;
 
 pub use linked::Linked;

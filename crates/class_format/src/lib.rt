@@ -28,6 +28,3 @@ pub use record::{
     PoolEntry,
 };
 pub use refusal::FormatRefusal;
-
-#[cfg(test)]
-mod tests;

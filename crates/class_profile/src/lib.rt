@@ -16,6 +16,3 @@ pub use laws::{no_fault_of_profile, one_first_fault};
 pub use main_method::{MainPlace, main_of};
 pub use name_form::is_name;
 pub use refusal::{ClassKind, ProfileRefusal};
-
-#[cfg(test)]
-mod tests;

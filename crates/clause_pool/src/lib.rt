@@ -11,8 +11,6 @@ ghost use Rattle.clause_pool.specs.PoolValue.{NoneTwice, IsWatching, IsSound, Is
 mod handle;
 mod lists;
 mod region;
-#[cfg(test)]
-mod tests;
 
 pub use handle::ClauseRef;
 use lists::WatchLists;

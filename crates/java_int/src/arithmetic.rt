@@ -47,20 +47,3 @@ pub fn fits(a: i32, width: u32) -> bool
     let high = a >> (width - 1);
     high == 0 || high == -1
 }
-
-#[cfg(test)]
-mod tests {
-    use super::*;
-
-    #[test]
-    fn arithmetic(rt: HostRuntime) {
-        assert_eq!(rt; add(i32::MAX, 1), i32::MIN);
-        assert_eq!(rt; sub(i32::MIN, 1), i32::MAX);
-        assert_eq!(rt; mul(65536, 65536), 0);
-        assert_eq!(rt; mul(-3, 7), -21);
-        assert_eq!(rt; neg(i32::MIN), i32::MIN);
-        assert!(rt; less(-1, 0) && !less(0, -1) && !less(5, 5));
-        assert!(rt; fits(127, 8) && !fits(128, 8) && fits(-128, 8) && !fits(-129, 8));
-        assert!(rt; fits(i32::MIN, 32) && fits(-2, 2) && !fits(2, 2));
-    }
-}

@@ -52,19 +52,3 @@ pub fn bit(a: i32, at: u32) -> bool
 {
     (a.cast_unsigned() >> at) & 1 == 1
 }
-
-#[cfg(test)]
-mod tests {
-    use super::*;
-
-    #[test]
-    fn bits(rt: HostRuntime) {
-        assert_eq!(rt; and(-4, 7), 4);
-        assert_eq!(rt; or(-4, 1), -3);
-        assert_eq!(rt; xor(-1, 5), -6);
-        assert_eq!(rt; to_byte(200), -56);
-        assert_eq!(rt; to_char(-1), 65535);
-        assert_eq!(rt; to_short(40000), -25536);
-        assert!(rt; bit(-2, 31) && !bit(-2, 0) && bit(8, 3));
-    }
-}

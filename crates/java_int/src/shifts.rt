@@ -24,18 +24,3 @@ pub fn ushr(a: i32, b: i32) -> i32
     let quotient = a.cast_unsigned().wrapping_shr(b.cast_unsigned());
     quotient.cast_signed()
 }
-
-#[cfg(test)]
-mod tests {
-    use super::*;
-
-    #[test]
-    fn shifts(rt: HostRuntime) {
-        assert_eq!(rt; shl(1, 33), 2);
-        assert_eq!(rt; shl(3, 31), i32::MIN);
-        assert_eq!(rt; shr(-9, 1), -5);
-        assert_eq!(rt; shr(9, -31), 4);
-        assert_eq!(rt; ushr(-1, 28), 15);
-        assert_eq!(rt; ushr(-1, 32), -1);
-    }
-}

@@ -6,8 +6,6 @@ pub mod command;
 pub mod number;
 pub mod outcome;
 pub mod outcome_reader;
-#[cfg(test)]
-mod tests;
 pub mod word_list;
 
 pub use command::{Command, WordsRefusal, read_words};

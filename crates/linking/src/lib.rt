@@ -14,6 +14,3 @@ pub use class_list::ClassList;
 pub use laws::{one_program, one_refusal, program_or_refusal};
 pub use linker::link;
 pub use refusal::ProgramRefusal;
-
-#[cfg(test)]
-mod tests;

@@ -104,28 +104,3 @@ impl Listing {
         self.items.partition_point(|listed| listed.pc < pc)
     }
 }
-
-#[cfg(test)]
-mod tests {
-    use super::*;
-    use std::test::Fail;
-
-    #[test]
-    fn lists_by_place(rt: HostRuntime) -> Result<(), Fail> {
-        let mut listing = Listing::new(rt.alloc());
-        assert!(rt; listing.is_empty());
-        listing.push(0, Instr::Iconst1)?;
-        listing.push(1, Instr::Goto { distance: -1 })?;
-        assert_eq!(rt; listing.len(), 2);
-        assert_eq!(rt; listing.at(1), Some(&Instr::Goto { distance: -1 }));
-        assert_eq!(rt; listing.at(2), None);
-        assert_eq!(rt;
-            listing.get(0),
-            Some(&Listed {
-                pc: 0,
-                instr: Instr::Iconst1
-            })
-        );
-        Ok(())
-    }
-}

@@ -11,8 +11,6 @@ pub mod outside;
 pub mod put;
 pub mod real;
 mod store;
-#[cfg(test)]
-mod tests;
 
 pub use answers::{Failed, Memory};
 pub use file_sink::FileSink;

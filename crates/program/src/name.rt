@@ -111,22 +111,3 @@ impl Name {
         self.bytes.as_slice() == other.bytes.as_slice()
     }
 }
-
-#[cfg(test)]
-mod tests {
-    use super::*;
-    use std::test::Fail;
-
-    #[test]
-    fn names(rt: HostRuntime) -> Result<(), Fail> {
-        let mut name = Name::copied(rt.alloc(), b"M")?;
-        assert!(rt; name.can_be_written());
-        name.push(b'.')?;
-        assert!(rt; !name.can_be_written());
-        assert!(rt; !Name::new(rt.alloc()).can_be_written());
-        let copy = name.duplicate()?;
-        assert!(rt; copy.same(&name));
-        assert_eq!(rt; copy.as_slice(), b"M.".as_slice());
-        Ok(())
-    }
-}

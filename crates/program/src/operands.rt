@@ -70,17 +70,3 @@ impl Operands {
         self.items.as_slice()
     }
 }
-
-#[cfg(test)]
-mod tests {
-    use super::*;
-    use std::test::Fail;
-
-    #[test]
-    fn operands(rt: HostRuntime) -> Result<(), Fail> {
-        let mut operands = Operands::new(rt.alloc());
-        operands.push(Operand::Constant(5))?;
-        assert_eq!(rt; operands.as_slice(), [Operand::Constant(5)].as_slice());
-        Ok(())
-    }
-}

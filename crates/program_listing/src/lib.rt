@@ -9,8 +9,7 @@ mod methods;
 mod operands;
 mod piece;
 mod printable;
-#[cfg(test)]
-mod tests;
 
+pub use instruction_names::name_of_instruction;
 pub use listing::put_listing;
 pub use printable::put_detail;

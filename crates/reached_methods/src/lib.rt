@@ -20,11 +20,9 @@ mod refusal;
 mod runs;
 mod survey;
 
+pub use code::{MethodCode, find_code};
 pub use laws::{no_first_fault, one_first_fault, one_list};
 pub use method::ReachedMethod;
 pub use reaching::reach;
 pub use refusal::{CodeKind, CodeRefusal, Detail};
 pub use runs::Runs;
-
-#[cfg(test)]
-mod tests;

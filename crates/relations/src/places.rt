@@ -29,17 +29,3 @@ pub fn stands_before(list: &[u64], earlier: u64, later: u64) -> bool
     }
     place_from(list, first + 1, later) < list.len()
 }
-
-#[cfg(test)]
-mod tests {
-    use super::*;
-
-    #[test]
-    fn places(rt: HostRuntime) {
-        let list = [7, 3, 7, 5];
-        assert_eq!(rt; place_from(&list, 1, 7), 2);
-        assert!(rt; stands_before(&list, 3, 7));
-        assert!(rt; !stands_before(&list, 5, 7));
-        assert!(rt; !stands_before(&list, 3, 3));
-    }
-}

@@ -13,6 +13,3 @@ pub use refusal::Misnamed;
 pub use resolver::resolve;
 pub use signature::{Signature, signature_of};
 pub use target::Target;
-
-#[cfg(test)]
-mod tests;

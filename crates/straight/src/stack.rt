@@ -48,19 +48,3 @@ impl Stack {
         self.items.pop().unwrap()
     }
 }
-
-#[cfg(test)]
-mod tests {
-    use super::*;
-    use std::test::Fail;
-
-    #[test]
-    fn last_in_first_out(rt: HostRuntime) -> Result<(), Fail> {
-        let mut stack = Stack::new(rt.alloc());
-        stack.push(StackItem::Out)?;
-        stack.push(StackItem::Int(5))?;
-        assert_eq!(rt; stack.pop(), StackItem::Int(5));
-        assert_eq!(rt; stack.pop(), StackItem::Out);
-        Ok(())
-    }
-}

@@ -4,8 +4,6 @@
 mod check;
 mod code;
 mod size;
-#[cfg(test)]
-mod tests;
 mod type_stack;
 mod variables;
 

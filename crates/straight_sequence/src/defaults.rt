@@ -75,28 +75,3 @@ pub fn default_writes(alloc: Global, program: &Program) -> Result<Vec<ActionRef>
     }
     Ok(members)
 }
-
-#[cfg(test)]
-mod tests {
-    use super::*;
-    use program::Name;
-    use std::test::Fail;
-
-    #[test]
-    fn in_order(rt: HostRuntime) -> Result<(), Fail> {
-        let mut members = Vec::new(rt.alloc());
-        for spelling in [b"b", b"a", b"c"] {
-            let class = Name::copied(rt.alloc(), b"M")?;
-            let name = Name::copied(rt.alloc(), spelling)?;
-            insert(&mut members, ActionRef::Default { class, name })?;
-        }
-        assert_eq!(rt; members.len(), 3);
-        assert!(rt; is_below(&members[0], &members[1]));
-        assert!(rt; is_below(&members[1], &members[2]));
-        assert!(rt; is_below(&members[1], &ActionRef::Id(0)));
-        assert!(rt; !is_below(&ActionRef::Id(0), &members[1]));
-        assert!(rt; is_below(&ActionRef::Id(0), &ActionRef::Id(1)));
-        assert!(rt; !is_below(&ActionRef::Id(1), &ActionRef::Id(1)));
-        Ok(())
-    }
-}

@@ -79,27 +79,3 @@ pub(crate) fn values_read(
     }
     Ok(reads)
 }
-
-#[cfg(test)]
-mod tests {
-    use super::*;
-    use std::test::Fail;
-
-    #[test]
-    fn reads_alone(rt: HostRuntime) -> Result<(), Fail> {
-        let code = [
-            (Instr::Iconst1, Operand::Constant(1)),
-            (Instr::Putstatic { index: 1 }, Operand::Variable(0)),
-            (Instr::Getstatic { index: 2 }, Operand::Out),
-            (Instr::Getstatic { index: 1 }, Operand::Variable(0)),
-            (Instr::Invokevirtual { index: 3 }, Operand::Print),
-            (Instr::Return, Operand::Nothing),
-        ];
-        let listing = code.map(|(instr, _)| Listed { pc: 0, instr });
-        let operands = code.map(|(_, operand)| operand);
-        let reads = values_read(rt.alloc(), &listing, &operands, &[4, 5, 6])?;
-        assert_eq!(rt; reads.get(0).copied(), Some(6));
-        assert_eq!(rt; reads.len(), 1);
-        Ok(())
-    }
-}

@@ -70,17 +70,3 @@ impl Events {
         self.items.as_slice()
     }
 }
-
-#[cfg(test)]
-mod tests {
-    use super::*;
-    use std::test::Fail;
-
-    #[test]
-    fn events(rt: HostRuntime) -> Result<(), Fail> {
-        let mut events = Events::new(rt.alloc());
-        events.push(Event::Print { value: 5 })?;
-        assert_eq!(rt; events.as_slice(), [Event::Print { value: 5 }].as_slice());
-        Ok(())
-    }
-}

@@ -12,8 +12,6 @@ mod frames;
 pub mod laws;
 mod stack;
 mod steps;
-#[cfg(test)]
-mod tests;
 mod tracing;
 mod value;
 mod walk;

@@ -103,20 +103,3 @@ impl Stack {
         }
     }
 }
-
-#[cfg(test)]
-mod tests {
-    use super::*;
-    use std::test::Fail;
-
-    #[test]
-    fn last_in_first_out(rt: HostRuntime) -> Result<(), Fail> {
-        let mut stack = Stack::new(rt.alloc());
-        stack.push(Value::out())?;
-        stack.push(Value::int(5))?;
-        assert_eq!(rt; stack.pop_int()?, 5);
-        stack.pop_out()?;
-        assert!(rt; stack.pop().is_err());
-        Ok(())
-    }
-}

@@ -20,8 +20,6 @@ mod stack;
 mod stage;
 mod symbol;
 mod targets;
-#[cfg(test)]
-mod tests;
 mod typing;
 mod untyped;
 

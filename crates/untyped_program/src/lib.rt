@@ -22,6 +22,3 @@ pub use laws::{field_numbers_are_places, monitor_numbers_are_places, one_untyped
 pub use limits::check_limits;
 pub use refusal::{LimitKind, LimitRefusal};
 pub use untyped::{UntypedProgram, untyped_program};
-
-#[cfg(test)]
-mod tests;

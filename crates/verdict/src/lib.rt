@@ -12,8 +12,6 @@ mod pieces;
 mod request;
 mod status;
 mod stop;
-#[cfg(test)]
-mod tests;
 mod top_call;
 
 pub use status::Status;

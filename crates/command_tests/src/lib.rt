@@ -1,0 +1,5 @@
+//! Tests of the command as a whole.
+#![tactic(auto)]
+
+#[cfg(test)]
+mod run;
