@@ -1,12 +1,15 @@
 -- Intra-thread consistency (JLS 17.4.7): each thread that acts has the events of a run.
-use Rattle.std.specs.Prelude.{◌≡◌, ℕ, zero, suc, ℤ, List, [], ◌∷◌, Some, slice_get, Contains, ⊤}
+use Rattle.std.specs.Prelude.{◌≡◌, ◌&&◌, ℕ, Bool, true, false, nat_eq, zero, suc, ℤ, List, [], ◌∷◌, Some, slice_get, Contains, ⊤}
+use Rattle.std.specs.List.{list_any}
 use Rattle.program.specs.Program.{Prog}
 use Rattle.program.specs.Run.{Move, IsRun}
 use Rattle.program.specs.Bounds.{InBounds}
+use Rattle.program.specs.declared.kind.Kind.{Kind}
 use Rattle.program.specs.declared.kind.Kind.TheVariants as kind
 use Rattle.program.specs.declared.program.Variable.{Variable}
 use Rattle.program.specs.declared.event.Event.{Event}
 use Rattle.program.specs.declared.event.Event.TheVariants.{First, Last, Read, Write, Lock, Unlock, Start, Detect, Print}
+use Rattle.action_orders.specs.declared.action.ActionOperand.{ActionOperand}
 use Rattle.action_orders.specs.declared.action.ActionOperand.TheVariants.{Monitor, Thread}
 use Rattle.action_orders.specs.declared.action.Entry.{Entry}
 use Rattle.action_orders.specs.declared.execution.ThreadPart.{ThreadPart}
@@ -45,12 +48,28 @@ HaveEvents p e (n ∷ ns) (v ∷ vs) = HasEvent p e n v × HaveEvents p e ns vs
 HaveEvents p e [] (v ∷ vs) = ⊥
 HaveEvents p e (n ∷ ns) [] = ⊥
 
+-- whether an action detects the end of thread k (JLS 17.4.2)
+abbrev pub is_detect : Kind → Bool
+is_detect kind.Detect = true
+is_detect _ = false
+
+abbrev pub is_thread : ℕ → ActionOperand → Bool
+is_thread k (Thread j) = nat_eq j k
+is_thread k _ = false
+
+abbrev pub is_detection : ℕ → Entry → Bool
+is_detection k n = is_detect n.action.kind && is_thread k n.action.operand
+
+-- the threads of which a thread has a detection: its isAlive calls find these ended, so that its actions fix the answers
+abbrev pub detects : List Entry → ℕ → Bool
+detects entries k = list_any (is_detection k) entries
+
 -- a run of the thread that has its actions as events, in order, and prints these values. The values that its reads give are
 -- those of the writes that they see, since each read's event is matched so
 pub record RunsAs (p : Prog) (e : Exec) (t : ThreadPart) (moves : List Move) (printed : List ℤ) : Type 0 where
   pub reads : List ℤ
   pub events : List Event
-  pub run : IsRun p t.thread moves reads events printed
+  pub run : IsRun p t.thread (detects t.entries) moves reads events printed
   pub matched : HaveEvents p e t.entries events
 
 pub record HasRun (p : Prog) (e : Exec) (t : ThreadPart) : Type 0 where

@@ -108,7 +108,7 @@ struct Row {
 }
 
 /// Programs, and refusals by types and limits.
-const ROWS: [Row; 16] = [
+const ROWS: [Row; 18] = [
     // a thread is made, started and waited for; it reads a volatile variable
     Row {
         twist: Twist::Nothing,
@@ -291,6 +291,66 @@ const ROWS: [Row; 16] = [
             RETURN,
         ],
         want: Want::Typing(TypeKind::ThreadState, MAIN, 7),
+    },
+    // a thread is asked whether it is alive
+    Row {
+        twist: Twist::Nothing,
+        flags: 9,
+        codes: [
+            &[
+                0xbb, 0, 6, 0x59, 0xb7, 0, 19, 0x59, 0xb6, 0, 22, 0xb6, 0, 89, 0x57, 0xb1,
+            ],
+            RETURN,
+            RETURN,
+            RETURN,
+            RETURN,
+            INIT,
+            RETURN,
+        ],
+        want: Want::Linked {
+            threads: &[MAIN, RUN],
+            volatile: &[],
+            monitors: 0,
+            methods: &[
+                Known {
+                    method: MAIN,
+                    monitor: None,
+                    operands: &[
+                        Operand::Make(1),
+                        Operand::Nothing,
+                        Operand::Make(1),
+                        Operand::Nothing,
+                        Operand::Start(1),
+                        Operand::Alive(1),
+                        Operand::Nothing,
+                        Operand::Nothing,
+                    ],
+                },
+                Known {
+                    method: RUN,
+                    monitor: None,
+                    operands: &[Operand::Nothing],
+                },
+            ],
+        },
+    },
+    // a thread is asked twice
+    Row {
+        twist: Twist::Nothing,
+        flags: 9,
+        codes: [
+            &[
+                0xbb, 0, 6, 0x59, 0xb7, 0, 19, 0x4c, 0x2b, 0xb6, 0, 22, 0x2b, 0xb6, 0, 89, 0x57,
+                0x2b, 0xb6, 0, 89, 0x57, 0xb1,
+            ],
+            RETURN,
+            RETURN,
+            RETURN,
+            RETURN,
+            INIT,
+            RETURN,
+        ],
+        want: Want::Typing(TypeKind::ThreadState, MAIN, 18),
     },
     // two methods can't be typed: the first by place, which is called last
     Row {

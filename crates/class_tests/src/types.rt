@@ -31,6 +31,14 @@ const START: (Instr, Symbol) = (Instr::Invokevirtual { index: 3 }, Symbol::Start
 
 const JOIN: (Instr, Symbol) = (Instr::Invokevirtual { index: 4 }, Symbol::Join);
 
+const ASK: (Instr, Symbol) = (Instr::Invokevirtual { index: 5 }, Symbol::Alive);
+
+const NEW_TARGET: (Instr, Symbol) = (Instr::New { index: 6 }, Symbol::MakeTarget(1));
+
+const INIT_TARGET: (Instr, Symbol) = (Instr::Invokespecial { index: 7 }, Symbol::ConstructTarget);
+
+const WRAP: (Instr, Symbol) = (Instr::Invokespecial { index: 8 }, Symbol::Wrap);
+
 /// An instruction that names nothing.
 fn plain(instr: Instr) -> (Instr, Symbol) {
     (instr, Symbol::Nothing)
@@ -235,6 +243,113 @@ fn threads(rt: HostRuntime) -> Result<(), Fail> {
     ];
     for (code, want) in cases {
         let method = method(rt.alloc(), Entry::Main, frame(2, 3, 1, false), code)?;
+        assert_eq!(rt; refusal(rt.alloc(), &method), want);
+    }
+    Ok(())
+}
+
+#[test]
+fn asked_threads(rt: HostRuntime) -> Result<(), Fail> {
+    let dup = plain(Instr::Dup);
+    let pop = plain(Instr::Pop);
+    let store = plain(Instr::Astore1);
+    let load = plain(Instr::Aload1);
+    let unready = |pc| refused(TypeKind::ThreadState, pc);
+    let misfit = |pc| refused(TypeKind::TypeMisfit, pc);
+    let cases: [(&[(Instr, Symbol)], Option<TypeRefusal>); 8] = [
+        // Asked once, waited for twice.
+        (&[NEW, dup, dup, INIT, dup, START, ASK, pop, RETURN], None),
+        (
+            &[
+                NEW, dup, store, INIT, load, START, load, JOIN, load, JOIN, RETURN,
+            ],
+            None,
+        ),
+        // Asked before the start, asked twice, asked and then waited for, waited for and then asked.
+        (&[NEW, dup, dup, INIT, ASK, RETURN], unready(8)),
+        (
+            &[
+                NEW, dup, store, INIT, load, START, load, ASK, pop, load, ASK, pop, RETURN,
+            ],
+            unready(18),
+        ),
+        (
+            &[
+                NEW, dup, store, INIT, load, START, load, ASK, pop, load, JOIN, RETURN,
+            ],
+            unready(18),
+        ),
+        (
+            &[
+                NEW, dup, store, INIT, load, START, load, JOIN, load, ASK, pop, RETURN,
+            ],
+            unready(17),
+        ),
+        // Waited for in one branch, and then in both; or asked then.
+        (
+            &[
+                NEW,
+                dup,
+                store,
+                INIT,
+                load,
+                START,
+                ONE,
+                plain(Instr::Ifeq { distance: 7 }),
+                load,
+                JOIN,
+                load,
+                JOIN,
+                RETURN,
+            ],
+            None,
+        ),
+        (&[ONE, ASK, RETURN], misfit(1)),
+    ];
+    for (code, want) in cases {
+        let method = method(rt.alloc(), Entry::Main, frame(2, 3, 1, false), code)?;
+        assert_eq!(rt; refusal(rt.alloc(), &method), want);
+    }
+    Ok(())
+}
+
+#[test]
+fn targets(rt: HostRuntime) -> Result<(), Fail> {
+    let dup = plain(Instr::Dup);
+    let store = plain(Instr::Astore1);
+    let load = plain(Instr::Aload1);
+    let other = (Instr::New { index: 1 }, Symbol::Make(2));
+    let misfit = |pc| refused(TypeKind::TypeMisfit, pc);
+    let cases: [(&[(Instr, Symbol)], Option<TypeRefusal>); 6] = [
+        // A thread is made around its target, and started by an older copy.
+        (
+            &[
+                NEW,
+                dup,
+                store,
+                NEW_TARGET,
+                dup,
+                INIT_TARGET,
+                WRAP,
+                load,
+                START,
+                RETURN,
+            ],
+            None,
+        ),
+        // The target's constructor isn't called; the thread is of another number; the thread's own constructor is called.
+        (&[NEW, NEW_TARGET, WRAP, RETURN], misfit(6)),
+        (
+            &[other, NEW_TARGET, dup, INIT_TARGET, WRAP, RETURN],
+            misfit(10),
+        ),
+        (&[NEW_TARGET, INIT, RETURN], misfit(3)),
+        // The target is started; the thread is started unmade.
+        (&[NEW_TARGET, dup, INIT_TARGET, START, RETURN], misfit(7)),
+        (&[NEW, START, RETURN], misfit(3)),
+    ];
+    for (code, want) in cases {
+        let method = method(rt.alloc(), Entry::Main, frame(2, 4, 1, false), code)?;
         assert_eq!(rt; refusal(rt.alloc(), &method), want);
     }
     Ok(())

@@ -29,6 +29,20 @@ abbrev pub joined : Option ValueType → Operand
 joined (Some (value_type.Thread thread)) = operand.Join thread
 joined top = operand.Nothing
 
+-- the thread that is asked whether it is alive
+abbrev pub asked : Option ValueType → Operand
+asked (Some (value_type.Thread thread)) = operand.Alive thread
+asked top = operand.Nothing
+
+-- the thread whose target's constructor is called, and the one that is made around its target
+abbrev pub target_constructed : Option ValueType → Operand
+target_constructed (Some (value_type.FreshTarget thread)) = operand.Target thread
+target_constructed top = operand.Nothing
+
+abbrev pub wrapped : Option ValueType → Operand
+wrapped (Some (value_type.Target thread)) = operand.Wrap thread
+wrapped top = operand.Nothing
+
 -- the monitor that is entered or left
 abbrev pub monitor_in : Option ValueType → Operand
 monitor_in (Some (value_type.Lock monitor)) = operand.Monitor monitor
@@ -43,8 +57,12 @@ named symbol.Print top = operand.Print
 named (symbol.Monitor monitor) top = operand.Monitor monitor
 named (symbol.Make thread) top = operand.Make thread
 named symbol.Construct top = constructed top
+named (symbol.MakeTarget thread) top = operand.Target thread
+named symbol.ConstructTarget top = target_constructed top
+named symbol.Wrap top = wrapped top
 named symbol.Start top = started top
 named symbol.Join top = joined top
+named symbol.Alive top = asked top
 named (symbol.Call method parameters result) top = operand.Method method
 named symbol.Nothing top = operand.Nothing
 

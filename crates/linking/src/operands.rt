@@ -1,7 +1,7 @@
 //! What the instructions of a typed method name.
 
 ghost use Rattle.std.specs.Prelude.{◌≡◌, IfOk, length};
-ghost use Rattle.linking.specs.Operands.{constructed, joined, monitor_in, named, operand_of, operands_of, started, top_of};
+ghost use Rattle.linking.specs.Operands.{asked, constructed, joined, monitor_in, named, operand_of, operands_of, started, target_constructed, top_of, wrapped};
 
 use opcodes::{Instr, Listed};
 use ports::Memory;
@@ -46,6 +46,36 @@ fn joined(top: Option<ValueType>) -> Operand
     }
 }
 
+/// The thread that is asked whether it is alive.
+fn asked(top: Option<ValueType>) -> Operand
+    ensures { result ≡ asked top }
+{
+    match top {
+        Some(ValueType::Thread(thread)) => Operand::Alive(thread),
+        _ => Operand::Nothing,
+    }
+}
+
+/// The thread whose target's constructor is called.
+fn target_constructed(top: Option<ValueType>) -> Operand
+    ensures { result ≡ target_constructed top }
+{
+    match top {
+        Some(ValueType::FreshTarget(thread)) => Operand::Target(thread),
+        _ => Operand::Nothing,
+    }
+}
+
+/// The thread that is made around its target.
+fn wrapped(top: Option<ValueType>) -> Operand
+    ensures { result ≡ wrapped top }
+{
+    match top {
+        Some(ValueType::Target(thread)) => Operand::Wrap(thread),
+        _ => Operand::Nothing,
+    }
+}
+
 /// The monitor that is entered or left.
 fn monitor_in(top: Option<ValueType>) -> Operand
     ensures { result ≡ monitor_in top }
@@ -68,8 +98,12 @@ fn named(symbol: Symbol, top: Option<ValueType>) -> Operand
         Symbol::Monitor(monitor) => Operand::Monitor(monitor),
         Symbol::Make(thread) => Operand::Make(thread),
         Symbol::Construct => constructed(top),
+        Symbol::MakeTarget(thread) => Operand::Target(thread),
+        Symbol::ConstructTarget => target_constructed(top),
+        Symbol::Wrap => wrapped(top),
         Symbol::Start => started(top),
         Symbol::Join => joined(top),
+        Symbol::Alive => asked(top),
         Symbol::Call { method, .. } => Operand::Method(method),
         Symbol::Nothing => Operand::Nothing,
     }

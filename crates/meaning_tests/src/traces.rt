@@ -179,7 +179,7 @@ fn reads_and_writes(rt: HostRuntime) -> Result<(), Fail> {
     ];
     let rows: [(&[i32], &str); 3] = [(&[5], "ok"), (&[], "short"), (&[5, 5], "left")];
     for (reads, want) in rows {
-        let result = trace(rt.alloc(), &program, 0, reads, &WIDE);
+        let result = trace(rt.alloc(), &program, 0, reads, 0, &WIDE);
         assert_eq!(rt; outcome(&result, &events), want);
     }
     Ok(())
@@ -210,7 +210,7 @@ fn waits(rt: HostRuntime) -> Result<(), Fail> {
     ];
     for (jumps, reads, want) in rows {
         let bounds = Bounds { jumps, width: 32 };
-        let result = trace(rt.alloc(), &program, 0, reads, &bounds);
+        let result = trace(rt.alloc(), &program, 0, reads, 0, &bounds);
         assert_eq!(rt; outcome(&result, &events), want);
     }
     Ok(())
@@ -239,7 +239,7 @@ fn widths(rt: HostRuntime) -> Result<(), Fail> {
             Event::Last,
         ];
         let bounds = Bounds { jumps: 0, width };
-        let result = trace(rt.alloc(), &program, 0, &[value], &bounds);
+        let result = trace(rt.alloc(), &program, 0, &[value], 0, &bounds);
         assert_eq!(rt; outcome(&result, &events), want);
     }
     Ok(())
@@ -272,7 +272,7 @@ fn operations(rt: HostRuntime) -> Result<(), Fail> {
             ],
         )?;
         let events = [Event::First, Event::Print { value }, Event::Last];
-        let result = trace(rt.alloc(), &program, 0, &[], &WIDE);
+        let result = trace(rt.alloc(), &program, 0, &[], 0, &WIDE);
         assert_eq!(rt; outcome(&result, &events), "ok");
     }
     let rows = [
@@ -288,7 +288,7 @@ fn operations(rt: HostRuntime) -> Result<(), Fail> {
             &[OUT, push(a), (instr, Operand::Nothing), PRINT, RETURN],
         )?;
         let events = [Event::First, Event::Print { value }, Event::Last];
-        let result = trace(rt.alloc(), &program, 0, &[], &WIDE);
+        let result = trace(rt.alloc(), &program, 0, &[], 0, &WIDE);
         assert_eq!(rt; outcome(&result, &events), "ok");
     }
     Ok(())
@@ -315,7 +315,7 @@ fn locals_and_stack(rt: HostRuntime) -> Result<(), Fail> {
         ],
     )?;
     let events = [Event::First, Event::Print { value: 3 }, Event::Last];
-    let result = trace(rt.alloc(), &program, 0, &[], &WIDE);
+    let result = trace(rt.alloc(), &program, 0, &[], 0, &WIDE);
     assert_eq!(rt; outcome(&result, &events), "ok");
     Ok(())
 }
@@ -350,7 +350,7 @@ fn jumps(rt: HostRuntime) -> Result<(), Fail> {
         let printed = [Event::First, Event::Print { value: 1 }, Event::Last];
         let silent = [Event::First, Event::Last];
         let events: &[Event] = if taken { &printed } else { &silent };
-        let result = trace(rt.alloc(), &program, 0, &[], &WIDE);
+        let result = trace(rt.alloc(), &program, 0, &[], 0, &WIDE);
         assert_eq!(rt; outcome(&result, events), "ok");
     }
     Ok(())
@@ -378,7 +378,7 @@ fn calls(rt: HostRuntime) -> Result<(), Fail> {
         Event::Print { value: 2 },
         Event::Last,
     ];
-    let result = trace(rt.alloc(), &program, 0, &[], &WIDE);
+    let result = trace(rt.alloc(), &program, 0, &[], 0, &WIDE);
     assert_eq!(rt; outcome(&result, &events), "ok");
     Ok(())
 }
@@ -392,7 +392,7 @@ fn refused_calls(rt: HostRuntime) -> Result<(), Fail> {
     ];
     for (code, parameters, help) in rows {
         let program = calling(&rt, rt.alloc(), code, frame(parameters, None), help)?;
-        let result = trace(rt.alloc(), &program, 0, &[], &WIDE);
+        let result = trace(rt.alloc(), &program, 0, &[], 0, &WIDE);
         assert_eq!(rt; outcome(&result, &[]), "none");
     }
     Ok(())
@@ -429,7 +429,7 @@ fn threads_and_monitors(rt: HostRuntime) -> Result<(), Fail> {
         Event::Detect { thread: 1 },
         Event::Last,
     ];
-    let result = trace(rt.alloc(), &program, 0, &[], &WIDE);
+    let result = trace(rt.alloc(), &program, 0, &[], 0, &WIDE);
     assert_eq!(rt; outcome(&result, &events), "ok");
     Ok(())
 }
@@ -444,7 +444,7 @@ fn nothing_there(rt: HostRuntime) -> Result<(), Fail> {
     ];
     for code in rows {
         let program = alone(&rt, rt.alloc(), code)?;
-        let result = trace(rt.alloc(), &program, 0, &[], &WIDE);
+        let result = trace(rt.alloc(), &program, 0, &[], 0, &WIDE);
         assert_eq!(rt; outcome(&result, &[]), "none");
     }
     Ok(())
@@ -464,7 +464,142 @@ fn long_runs(rt: HostRuntime) -> Result<(), Fail> {
         jumps: 255,
         width: 32,
     };
-    let found = trace(rt.alloc(), &program, 0, &[], &bounds);
+    let found = trace(rt.alloc(), &program, 0, &[], 0, &bounds);
     assert_eq!(rt; outcome(&found, &[]), "jumps");
+    Ok(())
+}
+
+const DOUBLE: (Instr, Operand) = (Instr::Dup, Operand::Nothing);
+
+/// A `new` with this operand.
+fn new(operand: Operand) -> (Instr, Operand) {
+    (Instr::New { index: 6 }, operand)
+}
+
+/// A constructor's call with this operand.
+fn construct(operand: Operand) -> (Instr, Operand) {
+    (Instr::Invokespecial { index: 7 }, operand)
+}
+
+/// A call of an object's method with this operand.
+fn call(operand: Operand) -> (Instr, Operand) {
+    (Instr::Invokevirtual { index: 8 }, operand)
+}
+
+/// A main that starts thread 1 and prints x if that thread, asked so, is not alive.
+fn asking(rt: &impl Abort, alloc: Global, asked: u32) -> Result<Program, Fail>
+    ensures { IfOk result (λ p. length p.threads ≡ 1) }
+{
+    alone(
+        rt,
+        alloc,
+        &[
+            new(Operand::Make(1)),
+            DOUBLE,
+            construct(Operand::Make(1)),
+            DOUBLE,
+            call(Operand::Start(1)),
+            call(Operand::Alive(asked)),
+            (Instr::Ifne { distance: 12 }, Operand::Nothing),
+            OUT,
+            READ_X,
+            PRINT,
+            RETURN,
+        ],
+    )
+}
+
+// An answer 0 is a detection, an answer 1 no event.
+#[test]
+fn asks(rt: HostRuntime) -> Result<(), Fail> {
+    let over = [
+        Event::First,
+        Event::Start { thread: 1 },
+        Event::Detect { thread: 1 },
+        Event::Read {
+            variable: 0,
+            value: 7,
+        },
+        Event::Print { value: 7 },
+        Event::Last,
+    ];
+    let alive = [Event::First, Event::Start { thread: 1 }, Event::Last];
+    let rows: [(u32, u8, &[i32], &[Event], &str); 8] = [
+        (1, 2, &[7], &over, "ok"),
+        (1, 255, &[7], &over, "ok"),
+        (1, 0, &[], &alive, "ok"),
+        (1, 253, &[], &alive, "ok"),
+        (1, 2, &[], &[], "short"),
+        (1, 0, &[7], &[], "left"),
+        (2, 2, &[7], &[], "none"),
+        (2, 4, &[], &[], "none"),
+    ];
+    for (asked, ended, reads, events, want) in rows {
+        let program = asking(&rt, rt.alloc(), asked)?;
+        let result = trace(rt.alloc(), &program, 0, reads, ended, &WIDE);
+        assert_eq!(rt; outcome(&result, events), want);
+    }
+    Ok(())
+}
+
+// A thread that is made around its target: both constructors take the objects of one thread.
+#[test]
+fn targets(rt: HostRuntime) -> Result<(), Fail> {
+    let started = [Event::First, Event::Start { thread: 1 }, Event::Last];
+    let rows: [(Operand, Operand, Operand, &[Event], &str); 5] = [
+        (
+            Operand::Target(1),
+            Operand::Target(1),
+            Operand::Wrap(1),
+            &started,
+            "ok",
+        ),
+        (
+            Operand::Target(1),
+            Operand::Target(1),
+            Operand::Wrap(2),
+            &[],
+            "none",
+        ),
+        (
+            Operand::Target(2),
+            Operand::Target(2),
+            Operand::Wrap(1),
+            &[],
+            "none",
+        ),
+        (
+            Operand::Target(1),
+            Operand::Target(2),
+            Operand::Wrap(1),
+            &[],
+            "none",
+        ),
+        (
+            Operand::Make(1),
+            Operand::Make(1),
+            Operand::Wrap(1),
+            &[],
+            "none",
+        ),
+    ];
+    for (made, constructed, wrapped, events, want) in rows {
+        let program = alone(
+            &rt,
+            rt.alloc(),
+            &[
+                new(Operand::Make(1)),
+                DOUBLE,
+                new(made),
+                DOUBLE,
+                construct(constructed),
+                construct(wrapped),
+                call(Operand::Start(1)),
+                RETURN,
+            ],
+        )?;
+        let result = trace(rt.alloc(), &program, 0, &[], 0, &WIDE);
+        assert_eq!(rt; outcome(&result, events), want);
+    }
     Ok(())
 }

@@ -1,5 +1,5 @@
 -- The bounds of runs: how many backward jumps, and how wide the ints; where they leave nothing out; where a thread can end.
-use Rattle.std.specs.Prelude.{◌≡◌, ◌≤◌, ◌+◌, ◌+ℤ◌, ℕ, ℤ, pos, Bool, false, List, [], ◌∷◌, All, count_by, Some, slice_get, nat_le, if◌then◌else◌}
+use Rattle.std.specs.Prelude.{◌≡◌, ◌≤◌, ◌+◌, ◌+ℤ◌, ℕ, ℤ, pos, Bool, true, false, List, [], ◌∷◌, All, count_by, Some, slice_get, nat_le}
 use Rattle.opcodes.specs.Instructions.{FallsThrough, jump_of, length_of}
 use Rattle.opcodes.specs.declared.instruction.Instr.{Instr}
 use Rattle.opcodes.specs.declared.instruction.Instr.TheVariants.{Return, Ireturn}
@@ -40,24 +40,42 @@ pub data IsReturn (instr : Instr) : Type 0 where
 abbrev pub behind : Place → Instr → Place
 behind at instr = record at { pc = at.pc + length_of instr }
 
--- one step along the code, calls and returns included: a list of places is that of the running instruction, and of the
--- calls that led to it; whether it is a backward jump, one whose target is not after it
-pub data Successor (p : Prog) (s : List Place) (backward : Bool) (t : List Place) : Type 0 where
-  falls : (at : Place) (callers : List Place) (instr : Instr) (names : Operand) → s ≡ at ∷ callers → StandsAt p at instr names →
-      FallsThrough instr → CallsNothing names → t ≡ behind at instr ∷ callers → backward ≡ false → Successor p s backward t
-  jumps : (at : Place) (callers : List Place) (instr : Instr) (names : Operand) (distance : ℤ) (to : ℕ) → s ≡ at ∷ callers → StandsAt p at instr names →
-      jump_of instr ≡ Some distance → pos to ≡ pos at.pc +ℤ distance → t ≡ record at { pc = to } ∷ callers → backward ≡ nat_le to at.pc → Successor p s backward t
-  calls : (at : Place) (callers : List Place) (instr : Instr) (called : MethodId) → s ≡ at ∷ callers → StandsAt p at instr (operand.Method called) →
-      t ≡ record { method = called; pc = 0 } ∷ at ∷ callers → backward ≡ false → Successor p s backward t
-  returns : (at caller : Place) (callers : List Place) (instr call : Instr) (names calls : Operand) → s ≡ at ∷ caller ∷ callers → StandsAt p at instr names →
-      IsReturn instr → StandsAt p caller call calls → t ≡ behind caller call ∷ callers → backward ≡ false → Successor p s backward t
-  ends : (at : Place) (instr : Instr) (names : Operand) → s ≡ at ∷ [] → StandsAt p at instr names → IsReturn instr → t ≡ [] → backward ≡ false → Successor p s backward t
+-- one step along the code: whether a jump was taken, whether that jump is backward, and where it leads. A jump to the next
+-- place and its fall through are two hops to one place
+pub record Hop : Type 0 where
+  pub taken : Bool
+  pub backward : Bool
+  pub to : List Place
 
--- a list of successors from s to t with this many backward jumps
-pub data Route (p : Prog) (t : List Place) : List Place → ℕ → Type 0 where
-  here : {s : List Place} {jumps : ℕ} → s ≡ t → jumps ≡ 0 → Route p t s jumps
-  on : {s : List Place} {jumps : ℕ} (backward : Bool) (u : List Place) (rest : ℕ) → Successor p s backward u → Route p t u rest →
-      jumps ≡ (if backward then 1 else 0) + rest → Route p t s jumps
+-- a hop that takes no jump
+abbrev pub straight_hop : List Place → Hop
+straight_hop to = record { taken = false; backward = false; to = to }
+
+-- a taken jump, which is backward where its target is not behind it
+abbrev pub jump_hop : Place → ℕ → List Place → Hop
+jump_hop at to callers = record { taken = true; backward = nat_le to at.pc; to = record at { pc = to } ∷ callers }
+
+-- one step along the code, calls and returns included: a list of places is that of the running instruction, and of the
+-- calls that led to it
+pub data Successor (p : Prog) (s : List Place) (hop : Hop) : Type 0 where
+  falls : (at : Place) (callers : List Place) (instr : Instr) (names : Operand) → s ≡ at ∷ callers → StandsAt p at instr names →
+      FallsThrough instr → CallsNothing names → hop ≡ straight_hop (behind at instr ∷ callers) → Successor p s hop
+  jumps : (at : Place) (callers : List Place) (instr : Instr) (names : Operand) (distance : ℤ) (to : ℕ) → s ≡ at ∷ callers → StandsAt p at instr names →
+      jump_of instr ≡ Some distance → pos to ≡ pos at.pc +ℤ distance → hop ≡ jump_hop at to callers → Successor p s hop
+  calls : (at : Place) (callers : List Place) (instr : Instr) (called : MethodId) → s ≡ at ∷ callers → StandsAt p at instr (operand.Method called) →
+      hop ≡ straight_hop (record { method = called; pc = 0 } ∷ at ∷ callers) → Successor p s hop
+  returns : (at caller : Place) (callers : List Place) (instr call : Instr) (names calls : Operand) → s ≡ at ∷ caller ∷ callers → StandsAt p at instr names →
+      IsReturn instr → StandsAt p caller call calls → hop ≡ straight_hop (behind caller call ∷ callers) → Successor p s hop
+  ends : (at : Place) (instr : Instr) (names : Operand) → s ≡ at ∷ [] → StandsAt p at instr names → IsReturn instr → hop ≡ straight_hop [] → Successor p s hop
+
+-- hops that lead from s to t, each from where the one before leads
+abbrev pub IsRoute : Prog → List Place → List Hop → List Place → Type 0
+IsRoute p s [] t = s ≡ t
+IsRoute p s (hop ∷ hops) t = Successor p s hop × IsRoute p hop.to hops t
+
+-- how many backward jumps these hops take
+abbrev pub backward_jumps : List Hop → ℕ
+backward_jumps hops = count_by (λ h. h.backward) hops
 
 -- where thread k begins
 pub record Begins (p : Prog) (k : ℕ) (s : List Place) : Type 0 where
@@ -65,16 +83,16 @@ pub record Begins (p : Prog) (k : ℕ) (s : List Place) : Type 0 where
   pub is_thread : slice_get p.threads k ≡ Some id
   pub start : s ≡ record { method = id; pc = 0 } ∷ []
 
--- the bounds leave no run out: the width is that of an int, and no list of successors through the code of any thread has
--- more backward jumps
+-- the bounds leave no run out: the width is that of an int, and no route through the code of any thread has more backward
+-- jumps
 pub record IsWhole (p : Prog) (jumps width : ℕ) : Type 0 where
   pub wide : width ≡ 32
-  pub enough : (k : ℕ) (s t : List Place) (taken : ℕ) → Begins p k s → Route p t s taken → taken ≤ jumps
+  pub enough : (k : ℕ) (s t : List Place) (hops : List Hop) → Begins p k s → IsRoute p s hops t → backward_jumps hops ≤ jumps
 
--- thread k can end: some list of successors with few enough backward jumps leads to its outermost return
+-- thread k can end: some route with few enough backward jumps leads to its outermost return
 pub record Ends (p : Prog) (k jumps : ℕ) : Type 0 where
   pub start : List Place
   pub begins : Begins p k start
-  pub taken : ℕ
-  pub few : taken ≤ jumps
-  pub route : Route p [] start taken
+  pub hops : List Hop
+  pub few : backward_jumps hops ≤ jumps
+  pub route : IsRoute p start hops []

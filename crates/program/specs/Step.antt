@@ -28,6 +28,8 @@ pub data JavaValue : Type 0 where
   Monitor : ℕ → JavaValue
   -- the object of the thread with this number
   Object : ℕ → JavaValue
+  -- the object whose run()V the thread with this number runs, where that thread is made around it
+  Target : ℕ → JavaValue
 
 -- a method that is being run: where it stands, its locals, and its stack from the top down
 pub record Activation : Type 0 where
@@ -153,71 +155,85 @@ pub record StoresLocal (p : Prog) (s t : List Activation) (instr : Instr) (slot 
 abbrev pub Holds : Activation → ℕ → JavaValue → Type 0
 Holds top slot value = slice_get top.locals slot ≡ Some (Some value)
 
--- one step of thread k between two states; a state is the list of the methods that are being run, the innermost first
-pub data Step (p : Prog) (k : ℕ) (s : List Activation) (effect : Effect) (t : List Activation) : Type 0 where
-  constant : (instr : Instr) (n : ℤ) (stack : List JavaValue) →
-      Executes p s t instr (operand.Constant n) stack (Int n ∷ stack) → effect ≡ pushes n → Step p k s effect t
+-- one step of a thread between two states, where isAlive finds these threads ended; a state is the list of the methods that
+-- are being run, the innermost first
+pub data Step (p : Prog) (ended : ℕ → Bool) (s : List Activation) (effect : Effect) (t : List Activation) : Type 0 where
+  constant : (instr : Instr) (n : ℤ) (stack : List JavaValue) → IsInt n →
+      Executes p s t instr (operand.Constant n) stack (Int n ∷ stack) → effect ≡ pushes n → Step p ended s effect t
   read : (index v : ℕ) (n : ℤ) (stack : List JavaValue) → IsInt n →
-      Executes p s t (Getstatic index) (operand.Variable v) stack (Int n ∷ stack) → effect ≡ shows (Read v n) (n ∷ []) → Step p k s effect t
+      Executes p s t (Getstatic index) (operand.Variable v) stack (Int n ∷ stack) → effect ≡ shows (Read v n) (n ∷ []) → Step p ended s effect t
   write : (index v : ℕ) (n : ℤ) (stack : List JavaValue) →
-      Executes p s t (Putstatic index) (operand.Variable v) (Int n ∷ stack) stack → effect ≡ shows (Write v n) (n ∷ []) → Step p k s effect t
+      Executes p s t (Putstatic index) (operand.Variable v) (Int n ∷ stack) stack → effect ≡ shows (Write v n) (n ∷ []) → Step p ended s effect t
   out : (index : ℕ) (stack : List JavaValue) →
-      Executes p s t (Getstatic index) operand.Out stack (Out ∷ stack) → effect ≡ silent → Step p k s effect t
+      Executes p s t (Getstatic index) operand.Out stack (Out ∷ stack) → effect ≡ silent → Step p ended s effect t
   print : (instr : Instr) (n : ℤ) (stack : List JavaValue) →
-      Executes p s t instr operand.Print (Int n ∷ Out ∷ stack) stack → effect ≡ shows (Print n) [] → Step p k s effect t
-  returned : Returns p s t → effect ≡ silent → Step p k s effect t
+      Executes p s t instr operand.Print (Int n ∷ Out ∷ stack) stack → effect ≡ shows (Print n) [] → Step p ended s effect t
+  returned : Returns p s t → effect ≡ silent → Step p ended s effect t
   -- the stack
-  nothing : (stack : List JavaValue) → Executes p s t Nop operand.Nothing stack stack → effect ≡ silent → Step p k s effect t
+  nothing : (stack : List JavaValue) → Executes p s t Nop operand.Nothing stack stack → effect ≡ silent → Step p ended s effect t
   drops : (value : JavaValue) (stack : List JavaValue) →
-      Executes p s t Pop operand.Nothing (value ∷ stack) stack → effect ≡ silent → Step p k s effect t
+      Executes p s t Pop operand.Nothing (value ∷ stack) stack → effect ≡ silent → Step p ended s effect t
   doubles : (value : JavaValue) (stack : List JavaValue) →
-      Executes p s t Dup operand.Nothing (value ∷ stack) (value ∷ value ∷ stack) → effect ≡ moves_values (value ∷ []) → Step p k s effect t
+      Executes p s t Dup operand.Nothing (value ∷ stack) (value ∷ value ∷ stack) → effect ≡ moves_values (value ∷ []) → Step p ended s effect t
   swaps : (a b : JavaValue) (stack : List JavaValue) →
-      Executes p s t Swap operand.Nothing (b ∷ a ∷ stack) (a ∷ b ∷ stack) → effect ≡ moves_values (a ∷ b ∷ []) → Step p k s effect t
+      Executes p s t Swap operand.Nothing (b ∷ a ∷ stack) (a ∷ b ∷ stack) → effect ≡ moves_values (a ∷ b ∷ []) → Step p ended s effect t
   -- locals
   loads_int : (instr : Instr) (slot : ℕ) (n : ℤ) (stack : List JavaValue) → int_load_of instr ≡ Some slot →
-      (does : Executes p s t instr operand.Nothing stack (Int n ∷ stack)) → Holds does.top slot (Int n) → effect ≡ pushes n → Step p k s effect t
+      (does : Executes p s t instr operand.Nothing stack (Int n ∷ stack)) → Holds does.top slot (Int n) → effect ≡ pushes n → Step p ended s effect t
   loads_reference : (instr : Instr) (slot : ℕ) (value : JavaValue) (stack : List JavaValue) → reference_load_of instr ≡ Some slot → IsReference value →
-      (does : Executes p s t instr operand.Nothing stack (value ∷ stack)) → Holds does.top slot value → effect ≡ silent → Step p k s effect t
+      (does : Executes p s t instr operand.Nothing stack (value ∷ stack)) → Holds does.top slot value → effect ≡ silent → Step p ended s effect t
   stores_int : (instr : Instr) (slot : ℕ) (n : ℤ) (stack : List JavaValue) → int_store_of instr ≡ Some slot →
-      StoresLocal p s t instr slot (Int n) (Int n ∷ stack) stack → effect ≡ pushes n → Step p k s effect t
+      StoresLocal p s t instr slot (Int n) (Int n ∷ stack) stack → effect ≡ pushes n → Step p ended s effect t
   stores_reference : (instr : Instr) (slot : ℕ) (value : JavaValue) (stack : List JavaValue) → reference_store_of instr ≡ Some slot → IsReference value →
-      StoresLocal p s t instr slot value (value ∷ stack) stack → effect ≡ silent → Step p k s effect t
+      StoresLocal p s t instr slot value (value ∷ stack) stack → effect ≡ silent → Step p ended s effect t
   increments : (slot : ℕ) (delta n : ℤ) (stack : List JavaValue) → (does : StoresLocal p s t (Iinc slot delta) slot (Int (add_of n delta)) stack stack) →
-      Holds does.next.top slot (Int n) → effect ≡ pushes (add_of n delta) → Step p k s effect t
+      Holds does.next.top slot (Int n) → effect ≡ pushes (add_of n delta) → Step p ended s effect t
   -- operations on ints
   unary : (instr : Instr) (operation : ℤ → ℤ) (a : ℤ) (stack : List JavaValue) → unary_of instr ≡ Some operation →
-      Executes p s t instr operand.Nothing (Int a ∷ stack) (Int (operation a) ∷ stack) → effect ≡ pushes (operation a) → Step p k s effect t
+      Executes p s t instr operand.Nothing (Int a ∷ stack) (Int (operation a) ∷ stack) → effect ≡ pushes (operation a) → Step p ended s effect t
   binary : (instr : Instr) (operation : ℤ → ℤ → ℤ) (a b : ℤ) (stack : List JavaValue) → binary_of instr ≡ Some operation →
-      Executes p s t instr operand.Nothing (Int b ∷ Int a ∷ stack) (Int (operation a b) ∷ stack) → effect ≡ pushes (operation a b) → Step p k s effect t
+      Executes p s t instr operand.Nothing (Int b ∷ Int a ∷ stack) (Int (operation a b) ∷ stack) → effect ≡ pushes (operation a b) → Step p ended s effect t
   -- jumps; a jump is backward where its target is not behind it
   jumps : (instr : Instr) (condition : Condition) (before after : List JavaValue) (target : ℕ) → condition_of instr ≡ Some condition →
-      Tests before after true condition → (does : JumpsTo p s t instr before after target) → effect ≡ jump_effect (nat_le target does.next.top.pc) → Step p k s effect t
+      Tests before after true condition → (does : JumpsTo p s t instr before after target) → effect ≡ jump_effect (nat_le target does.next.top.pc) → Step p ended s effect t
   stays : (instr : Instr) (condition : Condition) (before after : List JavaValue) → condition_of instr ≡ Some condition →
-      Tests before after false condition → Executes p s t instr operand.Nothing before after → effect ≡ silent → Step p k s effect t
+      Tests before after false condition → Executes p s t instr operand.Nothing before after → effect ≡ silent → Step p ended s effect t
   -- calls of static methods; a synchronized one locks its class when it is entered and unlocks it when it returns
   calls : (called : Method) (arguments : List JavaValue) → Calls p s t called arguments →
-      effect ≡ record { event = option_map Lock called.frame.monitor; ints = []; backward = false } → Step p k s effect t
+      effect ≡ record { event = option_map Lock called.frame.monitor; ints = []; backward = false } → Step p ended s effect t
   returns_nothing : (stack : List JavaValue) (method : Method) → ReturnsTo p s t Return stack [] method →
-      effect ≡ record { event = option_map Unlock method.frame.monitor; ints = []; backward = false } → Step p k s effect t
+      effect ≡ record { event = option_map Unlock method.frame.monitor; ints = []; backward = false } → Step p ended s effect t
   returns_int : (n : ℤ) (stack : List JavaValue) (method : Method) → ReturnsTo p s t Ireturn (Int n ∷ stack) (Int n ∷ []) method →
-      effect ≡ record { event = option_map Unlock method.frame.monitor; ints = n ∷ []; backward = false } → Step p k s effect t
+      effect ≡ record { event = option_map Unlock method.frame.monitor; ints = n ∷ []; backward = false } → Step p ended s effect t
   -- monitors: the class object of a monitor, lock, unlock
   class_object : (instr : Instr) (m : ℕ) (stack : List JavaValue) → LoadsConstant instr →
-      Executes p s t instr (operand.Monitor m) stack (Monitor m ∷ stack) → effect ≡ silent → Step p k s effect t
+      Executes p s t instr (operand.Monitor m) stack (Monitor m ∷ stack) → effect ≡ silent → Step p ended s effect t
   lock : (m : ℕ) (stack : List JavaValue) →
-      Executes p s t Monitorenter (operand.Monitor m) (Monitor m ∷ stack) stack → effect ≡ shows (Lock m) [] → Step p k s effect t
+      Executes p s t Monitorenter (operand.Monitor m) (Monitor m ∷ stack) stack → effect ≡ shows (Lock m) [] → Step p ended s effect t
   unlock : (m : ℕ) (stack : List JavaValue) →
-      Executes p s t Monitorexit (operand.Monitor m) (Monitor m ∷ stack) stack → effect ≡ shows (Unlock m) [] → Step p k s effect t
+      Executes p s t Monitorexit (operand.Monitor m) (Monitor m ∷ stack) stack → effect ≡ shows (Unlock m) [] → Step p ended s effect t
   -- threads: an object is made, its constructor called, the thread started, its end detected
   makes : (index thread : ℕ) (stack : List JavaValue) →
-      Executes p s t (New index) (operand.Make thread) stack (Object thread ∷ stack) → effect ≡ silent → Step p k s effect t
+      Executes p s t (New index) (operand.Make thread) stack (Object thread ∷ stack) → effect ≡ silent → Step p ended s effect t
   constructs : (index thread : ℕ) (stack : List JavaValue) →
-      Executes p s t (Invokespecial index) (operand.Make thread) (Object thread ∷ stack) stack → effect ≡ silent → Step p k s effect t
+      Executes p s t (Invokespecial index) (operand.Make thread) (Object thread ∷ stack) stack → effect ≡ silent → Step p ended s effect t
   starts : (index thread : ℕ) (stack : List JavaValue) →
-      Executes p s t (Invokevirtual index) (operand.Start thread) (Object thread ∷ stack) stack → effect ≡ shows (Start thread) [] → Step p k s effect t
+      Executes p s t (Invokevirtual index) (operand.Start thread) (Object thread ∷ stack) stack → effect ≡ shows (Start thread) [] → Step p ended s effect t
   joins : (index thread : ℕ) (stack : List JavaValue) →
-      Executes p s t (Invokevirtual index) (operand.Join thread) (Object thread ∷ stack) stack → effect ≡ shows (Detect thread) [] → Step p k s effect t
+      Executes p s t (Invokevirtual index) (operand.Join thread) (Object thread ∷ stack) stack → effect ≡ shows (Detect thread) [] → Step p ended s effect t
+  -- a thread that is made around its target: both objects are made, the target's constructor called, then the thread's, which
+  -- takes the target
+  makes_target : (index thread : ℕ) (stack : List JavaValue) →
+      Executes p s t (New index) (operand.Target thread) stack (Target thread ∷ stack) → effect ≡ silent → Step p ended s effect t
+  constructs_target : (index thread : ℕ) (stack : List JavaValue) →
+      Executes p s t (Invokespecial index) (operand.Target thread) (Target thread ∷ stack) stack → effect ≡ silent → Step p ended s effect t
+  wraps : (index thread : ℕ) (stack : List JavaValue) →
+      Executes p s t (Invokespecial index) (operand.Wrap thread) (Target thread ∷ Object thread ∷ stack) stack → effect ≡ silent → Step p ended s effect t
+  -- a thread is asked whether it is alive: no, which detects its end, or yes
+  asks_ended : (index thread : ℕ) (stack : List JavaValue) → ended thread ≡ true →
+      Executes p s t (Invokevirtual index) (operand.Alive thread) (Object thread ∷ stack) (Int (pos 0) ∷ stack) → effect ≡ shows (Detect thread) (pos 0 ∷ []) → Step p ended s effect t
+  asks_alive : (index thread : ℕ) (stack : List JavaValue) → ended thread ≡ false →
+      Executes p s t (Invokevirtual index) (operand.Alive thread) (Object thread ∷ stack) (Int (pos 1) ∷ stack) → effect ≡ pushes (pos 1) → Step p ended s effect t
 
 -- the locals that are filled when a thread begins: main has its argument, a run()V its object
 abbrev pub parameters_of : ℕ → List JavaValue

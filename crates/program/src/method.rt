@@ -39,10 +39,16 @@ pub enum Operand {
     Monitor(u32),
     /// The thread that a `new` or a constructor's call makes.
     Make(u32),
+    /// The thread whose target a `new` or a constructor's call makes.
+    Target(u32),
+    /// The thread that a call of the constructor of `java/lang/Thread` makes around its target.
+    Wrap(u32),
     /// The thread that a call of `start` starts.
     Start(u32),
     /// The thread that a call of `join` waits for.
     Join(u32),
+    /// The thread that a call of `isAlive` asks for.
+    Alive(u32),
     /// The method that an `invokestatic` calls.
     Method(MethodId),
     /// The `getstatic` of `java/lang/System.out`.

@@ -19,6 +19,10 @@ pub enum ValueType {
     Fresh(u32),
     /// The object of the thread with this number.
     Thread(u32),
+    /// The target of the thread with this number, its constructor not called yet.
+    FreshTarget(u32),
+    /// The target of the thread with this number.
+    Target(u32),
 }
 
 /// A local that has a type.

@@ -19,7 +19,7 @@ use Rattle.opcodes.specs.declared.instruction.Instr.{Instr}
 use Rattle.opcodes.specs.declared.instruction.Instr.TheVariants.{Ldc, LdcW, Getstatic, Putstatic, Invokevirtual, Invokespecial, Invokestatic, New}
 use Rattle.program.proofs.Lists.{there_is}
 use Rattle.program.specs.declared.method.MethodId.{MethodId}
-use Rattle.resolution.specs.Resolution.{Resolved, Names, Unknown, Forbidden, Final, resolve, constant_named, field_named, field_of, field_of_class, own_field, field_resolved, static_call, method_of, method_of_class, own_method, method_resolved, is_callable, virtual_call, is_bare, is_writable, of_thread, of_thread_class, field_spelling, special_call, class_made, thread_made, class_place, thread_place, method_spelling}
+use Rattle.resolution.specs.Resolution.{Resolved, Names, Unknown, Forbidden, Final, resolve, constant_named, field_named, field_of, field_of_class, own_field, field_resolved, static_call, method_of, method_of_class, own_method, method_resolved, is_callable, virtual_call, is_called, is_bare, is_writable, of_thread, of_thread_class, field_spelling, special_call, class_made, thread_made, class_place, thread_place, method_spelling}
 use Rattle.resolution.specs.Places.{is_static_named}
 use Rattle.resolution.specs.Signatures.{signature_of}
 use Rattle.resolution.specs.declared.signature.Signature.{Signature}
@@ -79,16 +79,18 @@ fields : (classes : List ClassRecord) (reads : Bool) (o : Option Reference) (id 
 fields classes reads (Some r) id P e = fields_of classes reads r (class_place classes r.class) id P e
 fields classes reads None id P e = none_called id P e
 
-objects_by : (a b c : Bool) (name : List ℕ) (id : MethodId) (P : Type 0) →
-    call_in (if a then Names target.Print else if b then Names target.Start else if c then Names target.Join else Forbidden name) ≡ Some id → P
-objects_by true b c name id P e = none_called id P e
-objects_by false true c name id P e = none_called id P e
-objects_by false false true name id P e = none_called id P e
-objects_by false false false name id P e = none_called id P e
+objects_by : (a b c d : Bool) (name : List ℕ) (id : MethodId) (P : Type 0) →
+    call_in (if a then Names target.Print else if b then Names target.Start else if c then Names target.Join else if d then Names target.Alive else Forbidden name) ≡ Some id → P
+objects_by true b c d name id P e = none_called id P e
+objects_by false true c d name id P e = none_called id P e
+objects_by false false true d name id P e = none_called id P e
+objects_by false false false true name id P e = none_called id P e
+objects_by false false false false name id P e = none_called id P e
 
 objects : (classes : List ClassRecord) (main : Bool) (o : Option Reference) (id : MethodId) (P : Type 0) → call_in (virtual_call classes main o) ≡ Some id → P
 objects classes main (Some r) id P e =
-    objects_by (is_println r) (main && is_bare (codes "start") r && of_thread classes r) (main && is_bare (codes "join") r && of_thread classes r) (method_spelling r) id P e
+    objects_by (is_println r) (main && is_bare (codes "start") r && of_thread classes r) (main && is_bare (codes "join") r && of_thread classes r)
+    (main && is_called (codes "isAlive") (codes "()Z") r && of_thread classes r) (method_spelling r) id P e
 objects classes main None id P e = none_called id P e
 
 constructors : (classes : List ClassRecord) (main : Bool) (o : Option Reference) (id : MethodId) (P : Type 0) → call_in (special_call classes main o) ≡ Some id → P

@@ -115,9 +115,13 @@ static_call classes None = Unknown None
 
 -- ---- Calls on objects
 
+-- a method of this name and this descriptor
+abbrev pub is_called : List ℕ → List ℕ → Reference → Bool
+is_called name descriptor r = same_text r.name name && same_text r.descriptor descriptor
+
 -- a method of this name without parameters and result
 abbrev pub is_bare : List ℕ → Reference → Bool
-is_bare name r = same_text r.name name && same_text r.descriptor (codes "()V")
+is_bare name r = is_called name (codes "()V") r
 
 -- the class of the reference is a listed thread class
 abbrev pub of_thread_class : List ClassRecord → Reference → Bool
@@ -132,6 +136,7 @@ object_call classes main r =
     if is_println r then Names target.Print
     else if main && is_bare (codes "start") r && of_thread classes r then Names target.Start
     else if main && is_bare (codes "join") r && of_thread classes r then Names target.Join
+    else if main && is_called (codes "isAlive") (codes "()Z") r && of_thread classes r then Names target.Alive
     else Forbidden (method_spelling r)
 
 -- what an invokevirtual names
@@ -179,7 +184,7 @@ constant_named pool index e = Unknown None
 
 -- ---- Instructions
 
--- what an instruction names; main alone makes, starts and joins threads
+-- what an instruction names; main alone makes, starts, joins and asks threads
 abbrev pub resolve : List ClassRecord → Bool → List PoolEntry → Instr → Resolved
 resolve classes main pool IconstM1 = Names (target.Constant (negsuc 0))
 resolve classes main pool Iconst0 = Names (target.Constant (pos 0))

@@ -7,7 +7,7 @@ ghost use Rattle.class_names.specs.Names as spec;
 ghost use Rattle.class_format.specs.Pool as pools;
 ghost use Rattle.resolution.specs.Signatures.{signature_of};
 ghost use Rattle.resolution.specs.Misnamings.{Tells};
-ghost use Rattle.resolution.specs.Resolution.{resolve, field_named, foreign_field, field_resolved, own_field, own_method, field_of_class, static_call, method_of_class, method_resolved, virtual_call, object_call, special_call, constructor_named, class_made, thread_made, constant_named, class_object, is_bare, of_thread, of_thread_class, field_spelling, method_spelling, is_callable, is_name_byte, is_writable};
+ghost use Rattle.resolution.specs.Resolution.{resolve, field_named, foreign_field, field_resolved, own_field, own_method, field_of_class, static_call, method_of_class, method_resolved, virtual_call, object_call, special_call, constructor_named, class_made, thread_made, constant_named, class_object, is_called, is_bare, of_thread, of_thread_class, field_spelling, method_spelling, is_callable, is_name_byte, is_writable};
 
 use crate::index::ClassIndex;
 use crate::refusal::Misnamed;
@@ -293,12 +293,19 @@ fn static_call(
     }
 }
 
+/// Whether a method has this name and this descriptor.
+fn is_called(pool: &PoolEntries, name: &[u8], descriptor: &[u8], reference: Reference) -> bool
+    ensures { result ≡ is_called name.now descriptor.now (reference_of pool.now reference.class reference.name_and_type) }
+{
+    same_text(member_name_of(pool, reference.name_and_type), name)
+        && same_text(descriptor_of(pool, reference.name_and_type), descriptor)
+}
+
 /// Whether a method has this name, no parameters and no result.
 fn is_bare(pool: &PoolEntries, name: &[u8], reference: Reference) -> bool
     ensures { result ≡ is_bare name.now (reference_of pool.now reference.class reference.name_and_type) }
 {
-    same_text(member_name_of(pool, reference.name_and_type), name)
-        && same_text(descriptor_of(pool, reference.name_and_type), b"()V")
+    is_called(pool, name, b"()V", reference)
 }
 
 /// Whether the class of a reference is a listed thread class.
@@ -336,6 +343,9 @@ fn object_call(
     }
     if main && is_bare(pool, b"join", reference) && of_thread(index, pool, reference) {
         return Ok(Target::Join);
+    }
+    if main && is_called(pool, b"isAlive", b"()Z", reference) && of_thread(index, pool, reference) {
+        return Ok(Target::Alive);
     }
     Err(forbidden(method_spelling(alloc, pool, reference)))
 }
@@ -483,7 +493,7 @@ fn constant_named(alloc: Global, pool: &PoolEntries, entry: u16) -> Result<Targe
     }
 }
 
-/// What an instruction of a class with this pool names; main alone makes, starts and joins threads.
+/// What an instruction of a class with this pool names; main alone makes, starts, joins and asks threads.
 ///
 /// # Errors
 /// `Unknown`, `Forbidden` and `Final` as docs/PROFILE.md, "Names", has them; `Memory` where there is no room for the name

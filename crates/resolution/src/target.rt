@@ -23,6 +23,8 @@ pub enum Target {
     Start,
     /// A call of a thread's `join()V`.
     Join,
+    /// A call of a thread's `isAlive()Z`.
+    Alive,
     /// A call of a static method.
     Call(MethodId),
     /// Any other instruction.

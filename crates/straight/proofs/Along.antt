@@ -99,7 +99,7 @@ run_step : (p : Prog) (m : Method) (e : Exec) (width : ℕ) (locals : List (Opti
     StepFacts p m e width locals all id pc done s items names later item o → RunsOn p m e width locals id pc s (item ∷ items) (o ∷ names)
 run_step p m e width locals all id pc done s items names later item o before types (constant n names_is is_int after_is) =
     subst (λ (q : Operand). StepFacts p m e width locals all id pc done s items names later item q → RunsOn p m e width locals id pc s (item ∷ items) (q ∷ names)) (sym names_is)
-    (run_constant p m e width locals all id pc done s items names later item n)
+    (run_constant p m e width locals all id pc done s items names later item n is_int)
 run_step p m e width locals all id pc done s items names later item o before types (read index v instr_is names_is after_is) =
     subst (λ (q : Operand). StepFacts p m e width locals all id pc done s items names later item q → RunsOn p m e width locals id pc s (item ∷ items) (q ∷ names)) (sym names_is)
     (subst (λ (x : Listed). StepFacts p m e width locals all id pc done s items names later x (operand.Variable v) → RunsOn p m e width locals id pc s (x ∷ items) (operand.Variable v ∷ names))

@@ -30,7 +30,7 @@ use Rattle.action_orders.specs.Actions.{Act, Default, Of, Var, IsAction, Is, IsR
 use Rattle.action_orders.specs.Actions as acts
 use Rattle.action_orders.specs.Causality.{Commits, NamesAll}
 use Rattle.action_orders.specs.Laws.{ReadsNothing, NamesUnread, in_one_step, in_two_steps}
-use Rattle.action_orders.specs.Runs.{HasEvent, HaveEvents, RunsAs, HasRun, HasRunWithin, IntraThreadAt, ActsRightly, WithinAt, IsWithin}
+use Rattle.action_orders.specs.Runs.{HasEvent, HaveEvents, RunsAs, HasRun, HasRunWithin, IntraThreadAt, ActsRightly, WithinAt, IsWithin, detects}
 use Rattle.action_orders.specs.WellFormed.{IsWellFormed}
 use Rattle.action_orders.proofs.CommitsItself.{commits_in_two_steps, commits_in_one_step}
 use Rattle.straight.specs.Laws.{is_read, all_ids, unread_ids, AreDefaults, sequence_of, IsJustified}
@@ -56,8 +56,10 @@ pub record RunOfMain (p : Prog) (m : Method) (jumps width : ℕ) : Type 0 where
   pub moves : List Move
   pub runs : RunsAs p (execution_of p m) (part_of p m) moves (printed_of p m)
   pub within : InBounds moves jumps width
+  -- whatever isAlive would answer: no instruction of main asks
+  pub any : (ended : ℕ → Bool) → IsRun p 0 ended moves runs.reads runs.events (printed_of p m)
 
-run_of_main : (p : Prog) (h : IsStraight p) (jumps width : ℕ) → All (Fits width) (ints_of p h.main) → RunOfMain p h.main jumps width
+pub run_of_main : (p : Prog) (h : IsStraight p) (jumps width : ℕ) → All (Fits width) (ints_of p h.main) → RunOfMain p h.main jumps width
 run_of_main p h jumps width fits = record {
   moves = r.moves;
   runs = record {
@@ -66,7 +68,7 @@ run_of_main p h jumps width fits = record {
     run = record {
       start = main_at h.main locals 0 [];
       entry = record { id = h.main.id; is_thread = rw h.thread refl; method = h.main; is_method = is_method; start = refl };
-      steps = r.steps;
+      steps = r.steps (detects (main_entries p h.main));
       events_are = refl;
       reads_are = refl;
       printed_are = sym (filter_map-append run.printed_of (events_of r.moves) (event.Last ∷ []) ∙ append-nil (filter_map run.printed_of (events_of r.moves)) ∙ r.prints);
@@ -74,6 +76,14 @@ run_of_main p h jumps width fits = record {
     matched = (refl, have_more p (execution_of p h.main) (entries_from p 1 (initial p) h.main.listing h.main.operands) (events_of r.moves) (last_entry (last_id h.main)) event.Last r.matched refl);
   };
   within = record { few_jumps = omega (arith, r.forward); narrow = r.narrow };
+  any = λ ended. record {
+    start = main_at h.main locals 0 [];
+    entry = record { id = h.main.id; is_thread = rw h.thread refl; method = h.main; is_method = is_method; start = refl };
+    steps = r.steps ended;
+    events_are = refl;
+    reads_are = refl;
+    printed_are = sym (filter_map-append run.printed_of (events_of r.moves) (event.Last ∷ []) ∙ append-nil (filter_map run.printed_of (events_of r.moves)) ∙ r.prints);
+  };
 }
   where
     locals : List (Option JavaValue)

@@ -5,6 +5,7 @@ use Rattle.opcodes.specs.Instructions.{length_of}
 use Rattle.opcodes.specs.declared.instruction.Instr.TheVariants.{Getstatic, Putstatic}
 use Rattle.opcodes.specs.declared.listed.Listed.{Listed}
 use Rattle.java_int.specs.JavaInt.{Fits}
+use Rattle.program.specs.Ints.{IsInt}
 use Rattle.program.specs.Program.{Prog, IsMethod, IsInstruction}
 use Rattle.program.specs.Step.{JavaValue, Executes, silent, pushes, shows}
 use Rattle.program.specs.Step as step
@@ -45,11 +46,11 @@ pub record StepFacts (p : Prog) (m : Method) (e : Exec) (width : ℕ) (locals : 
   pub rest : RunsOn p m e width locals (id + 1) (pc + length_of item.instr) (after id s (doing_of item.instr o)) items names
 
 pub run_constant : (p : Prog) (m : Method) (e : Exec) (width : ℕ) (locals : List (Option JavaValue)) (all : List Entry) (id pc : ℕ) (done : List Entry) (s : State)
-    (items : List Listed) (names : List Operand) (later : List Entry) (item : Listed) (n : ℤ) → StepFacts p m e width locals all id pc done s items names later item (operand.Constant n) →
+    (items : List Listed) (names : List Operand) (later : List Entry) (item : Listed) (n : ℤ) → IsInt n → StepFacts p m e width locals all id pc done s items names later item (operand.Constant n) →
     RunsOn p m e width locals id pc s (item ∷ items) (operand.Constant n ∷ names)
-run_constant p m e width locals all id pc done s items names later item n f = record {
+run_constant p m e width locals all id pc done s items names later item n is_int f = record {
   moves = mv ∷ f.rest.moves;
-  steps = (step.constant item.instr n (map value_of s.stack) (executes p m locals pc item.instr (operand.Constant n) s.stack (Int n ∷ s.stack) f.is_method f.instruction) refl, f.rest.steps);
+  steps = λ ended. (step.constant item.instr n (map value_of s.stack) is_int (executes p m locals pc item.instr (operand.Constant n) s.stack (Int n ∷ s.stack) f.is_method f.instruction) refl, f.rest.steps ended);
   matched = f.rest.matched;
   prints = f.rest.prints;
   narrow = all_cons (λ (x : Move). All (Fits width) x.effect.ints) mv f.rest.moves
@@ -65,7 +66,7 @@ pub run_out : (p : Prog) (m : Method) (e : Exec) (width : ℕ) (locals : List (O
     RunsOn p m e width locals id pc s (record { pc = q; instr = Getstatic index } ∷ items) (operand.Out ∷ names)
 run_out p m e width locals all id pc done s items names later q index f = record {
   moves = mv ∷ f.rest.moves;
-  steps = (step.out index (map value_of s.stack) (executes p m locals pc (Getstatic index) operand.Out s.stack (Out ∷ s.stack) f.is_method f.instruction) refl, f.rest.steps);
+  steps = λ ended. (step.out index (map value_of s.stack) (executes p m locals pc (Getstatic index) operand.Out s.stack (Out ∷ s.stack) f.is_method f.instruction) refl, f.rest.steps ended);
   matched = f.rest.matched;
   prints = f.rest.prints;
   narrow = all_cons (λ (x : Move). All (Fits width) x.effect.ints) mv f.rest.moves (All-nil (Fits width)) f.rest.narrow;
@@ -112,10 +113,10 @@ run_read p m e width locals all id pc done s items names later q index v f = go 
         f.inside _ (subst (λ (xs : List Entry). Contains xs n) (sym f.stands.parts) (Contains-append_right done (n ∷ later) n (contains_here n later))) in
         record {
           moves = mv ∷ f.rest.moves;
-          steps = (
+          steps = λ ended. (
             step.read index v (cell_of s v).value (map value_of s.stack) (f.stands.knows.known v w is).is_int
                 (executes p m locals pc (Getstatic index) (operand.Variable v) s.stack (Int (cell_of s v).value ∷ s.stack) f.is_method f.instruction) refl,
-            f.rest.steps,
+            f.rest.steps ended,
           );
           matched = (
             (
@@ -155,10 +156,10 @@ run_write p m e width locals all id pc done s items names later q index v value 
         f.inside n (subst (λ (xs : List Entry). Contains xs n) (sym f.stands.parts) (Contains-append_right done (n ∷ later) n (contains_here n later))) in
         record {
           moves = mv ∷ f.rest.moves;
-          steps = (
+          steps = λ ended. (
             step.write index v value (map value_of stack)
                 (rw on_top (executes p m locals pc (Putstatic index) (operand.Variable v) (Int value ∷ stack) stack f.is_method f.instruction)) refl,
-            rw on_top at f.rest.steps,
+            rw on_top at (f.rest.steps ended),
           );
           matched = (
             (
@@ -184,10 +185,10 @@ run_print p m e width locals all id pc done s items names later item value stack
     let top_is : top_of s.stack ≡ value = rw on_top refl in
     record {
       moves = mv ∷ f.rest.moves;
-      steps = (
+      steps = λ ended. (
         step.print item.instr value (map value_of stack)
             (rw on_top (executes p m locals pc item.instr operand.Print (Int value ∷ Out ∷ stack) stack f.is_method f.instruction)) refl,
-        rw on_top at f.rest.steps,
+        rw on_top at (f.rest.steps ended),
       );
       matched = (refl, f.rest.matched);
       prints = rw top_is (ap (λ (xs : List ℤ). value ∷ xs) f.rest.prints);

@@ -1,5 +1,5 @@
 -- The run of straight code, and what each of its entries is.
-use Rattle.std.proofs.Common.{◌≡◌, ◌+◌, ℕ, suc, List, [], ◌∷◌, map, Option, slice_get, refl, ◌∙◌, ap, subst, arith, All, count_by}
+use Rattle.std.proofs.Common.{◌≡◌, ◌+◌, ℕ, Bool, suc, List, [], ◌∷◌, map, Option, slice_get, refl, ◌∙◌, ap, subst, arith, All, count_by}
 use Rattle.std.specs.List.{filter_map}
 use Rattle.std.proofs.lemmas.List.Elements.{All-nil}
 use Rattle.opcodes.specs.Instructions.{length_of}
@@ -52,7 +52,7 @@ main_at m locals pc stack = record { method = m.id; pc = pc; locals = locals; st
 -- what a run of the rest of the code has to show
 pub record RunsOn (p : Prog) (m : Method) (e : Exec) (width : ℕ) (locals : List (Option JavaValue)) (id pc : ℕ) (s : State) (items : List Listed) (names : List Operand) : Type 0 where
   pub moves : List Move
-  pub steps : AreSteps p 0 (main_at m locals pc s.stack) moves
+  pub steps : (ended : ℕ → Bool) → AreSteps p ended (main_at m locals pc s.stack) moves
   pub matched : HaveEvents p e (entries_from p id s items names) (events_of moves)
   pub prints : filter_map printed_of (events_of moves) ≡ printed_from id s items names
   pub narrow : All (λ mv. All (Fits width) mv.effect.ints) moves
@@ -63,7 +63,7 @@ pub run_end : (p : Prog) (m : Method) (e : Exec) (width : ℕ) (locals : List (O
     IsAt m k (item ∷ []) (o ∷ []) → IsStraightEnd pc item o → RunsOn p m e width locals id pc s (item ∷ []) (o ∷ [])
 run_end p m e width locals id pc k s item o is_method at ends = record {
   moves = record { effect = silent; state = [] } ∷ [];
-  steps = (step.returned returns refl, refl);
+  steps = λ ended. (step.returned returns refl, refl);
   matched = rw ends.names_nothing tt;
   prints = rw ends.names_nothing refl;
   narrow = all_cons (λ (mv : Move). All (Fits width) mv.effect.ints) (record { effect = silent; state = [] }) [] (All-nil (Fits width)) (All-nil (λ (mv : Move). All (Fits width) mv.effect.ints));

@@ -1,5 +1,5 @@
 -- A run of straight code goes along its instructions, with the values of the walk.
-use Rattle.std.proofs.Common.{◌≡◌, ◌+◌, ℕ, zero, suc, ℤ, List, [], ◌∷◌, ◌++◌, length, map, replicate, unwrap_or, Some, None, Option, IfSome, slice_get, arith, refl, sym, ◌∙◌, ap, subst, Contains, All}
+use Rattle.std.proofs.Common.{◌≡◌, ◌+◌, ℕ, Bool, zero, suc, ℤ, List, [], ◌∷◌, ◌++◌, length, map, replicate, unwrap_or, Some, None, Option, IfSome, slice_get, arith, refl, sym, ◌∙◌, ap, subst, Contains, All}
 use Rattle.std.specs.List.{filter_map, cons_option}
 use Rattle.std.proofs.lemmas.List.{length-replicate}
 use Rattle.std.proofs.lemmas.Option.{same_Some}
@@ -25,7 +25,7 @@ use Rattle.action_orders.specs.declared.action.Entry.{Entry}
 use Rattle.action_orders.specs.declared.execution.ThreadPart.{ThreadPart}
 use Rattle.action_orders.specs.Execution.{Exec}
 use Rattle.action_orders.specs.Actions.{Default, Of, Var, IsWrite, var_of}
-use Rattle.action_orders.specs.Runs.{HaveEvents, RunsAs}
+use Rattle.action_orders.specs.Runs.{HaveEvents, RunsAs, detects}
 use Rattle.action_orders.specs.WellFormed.{IsWellFormed}
 use Rattle.straight.specs.Doing.{doing_of}
 use Rattle.straight.specs.Meaning.{State, after, initial, ints_at, ints_from, printed_at, printed_from, unwritten}
@@ -67,14 +67,14 @@ main_over : (a : Activation) (xs : List Activation) → a ∷ xs ≡ [] → ⊥
 main_over a xs is = cc
 
 -- after the outermost return there is no move
-over : (p : Prog) (k : ℕ) (moves : List Move) → AreSteps p k [] moves → moves ≡ []
-over p k [] h = refl
-over p k (mv ∷ moves) (s, rest) = absurd (no_step p k mv.effect mv.state s)
+over : (p : Prog) (ended : ℕ → Bool) (moves : List Move) → AreSteps p ended [] moves → moves ≡ []
+over p ended [] h = refl
+over p ended (mv ∷ moves) (s, rest) = absurd (no_step p ended mv.effect mv.state s)
 
 -- the last instruction
-ends : (p : Prog) (h : IsStraight p) (k id pc j : ℕ) (s : State) (locals : List (Option JavaValue)) (item : Listed) (o : Operand) (mv : Move) (moves : List Move) → IsStraightEnd pc item o →
-    IsAt h.main j (item ∷ []) (o ∷ []) → AreSteps p k (main_at h.main locals pc (map value_of s.stack)) (mv ∷ moves) → IsRestOfRun h.main id s (item ∷ []) (o ∷ []) (mv ∷ moves)
-ends p h k id pc j s locals item o mv moves last at (here, rest) = rw (last.names_nothing, none) (record {
+ends : (p : Prog) (h : IsStraight p) (ended : ℕ → Bool) (id pc j : ℕ) (s : State) (locals : List (Option JavaValue)) (item : Listed) (o : Operand) (mv : Move) (moves : List Move) → IsStraightEnd pc item o →
+    IsAt h.main j (item ∷ []) (o ∷ []) → AreSteps p ended (main_at h.main locals pc (map value_of s.stack)) (mv ∷ moves) → IsRestOfRun h.main id s (item ∷ []) (o ∷ []) (mv ∷ moves)
+ends p h ended id pc j s locals item o mv moves last at (here, rest) = rw (last.names_nothing, none) (record {
   along = end.ends;
   ints = ap (λ (f : Effect). f.ints ++ []) end.silent_effect;
   prints = ap (λ (f : Effect). filter_map run.printed_of (cons_option f.event [] ++ event.Last ∷ [])) end.silent_effect;
@@ -88,10 +88,10 @@ ends p h k id pc j s locals item o mv moves last at (here, rest) = rw (last.name
         (subst (λ (q : Operand). IsInstruction h.main item.pc item.instr q) last.names_nothing (stands_at h.main j item [] o [] at)))
 
     end : IsEndOf mv.effect mv.state
-    end = step_ends p h k locals pc (map value_of s.stack) mv.effect mv.state instruction here
+    end = step_ends p h ended locals pc (map value_of s.stack) mv.effect mv.state instruction here
 
     none : moves ≡ []
-    none = over p k moves (subst (λ (t : List Activation). AreSteps p k t moves) end.ends rest)
+    none = over p ended moves (subst (λ (t : List Activation). AreSteps p ended t moves) end.ends rest)
 
 pushed : (o : Option Event) (xs ys : List Event) → cons_option o xs ++ ys ≡ cons_option o (xs ++ ys)
 pushed None xs ys = refl
@@ -118,23 +118,23 @@ goes p e t m id s locals pc item next items o names mv moves stack place state_i
 }
 
 -- the run from here on
-run_from : (p : Prog) (e : Exec) (t : ThreadPart) (main : IsMainPart p e t) (thread k id pc j : ℕ) (s : State) (types : List StackType) (locals : List (Option JavaValue)) (items : List Listed) (names : List Operand)
+run_from : (p : Prog) (e : Exec) (t : ThreadPart) (main : IsMainPart p e t) (ended : ℕ → Bool) (k id pc j : ℕ) (s : State) (types : List StackType) (locals : List (Option JavaValue)) (items : List Listed) (names : List Operand)
     (moves : List Move) (rest : List Entry) → IsBefore p e t s k rest → IsStraightFrom (length p.variables) main.straight.main.frame.max_stack pc types items names → IsAt main.straight.main j items names →
-    AreSteps p thread (main_at main.straight.main locals pc (map value_of s.stack)) moves → HaveEvents p e rest (events_of moves ++ event.Last ∷ []) → IsRestOfRun main.straight.main id s items names moves
-run_from p e t main thread k id pc j s types locals [] names moves rest before straight at steps matched = absurd straight
-run_from p e t main thread k id pc j s types locals (item ∷ []) [] moves rest before straight at steps matched = absurd straight
-run_from p e t main thread k id pc j s types locals (item ∷ []) (o ∷ q ∷ names) moves rest before straight at steps matched = absurd straight
-run_from p e t main thread k id pc j s types locals (item ∷ []) (o ∷ []) [] rest before straight at steps matched = absurd (main_over _ _ steps)
-run_from p e t main thread k id pc j s types locals (item ∷ []) (o ∷ []) (mv ∷ moves) rest before straight at steps matched =
-    ends p main.straight thread id pc j s locals item o mv moves straight at steps
-run_from p e t main thread k id pc j s types locals (item ∷ next ∷ items) [] moves rest before straight at steps matched = absurd straight
-run_from p e t main thread k id pc j s types locals (item ∷ next ∷ items) (o ∷ names) [] rest before straight at steps matched = absurd (main_over _ _ steps)
-run_from p e t main thread k id pc j s types locals (item ∷ next ∷ items) (o ∷ names) (mv ∷ moves) rest before (types_after, step, straight) at (here, steps) matched =
+    AreSteps p ended (main_at main.straight.main locals pc (map value_of s.stack)) moves → HaveEvents p e rest (events_of moves ++ event.Last ∷ []) → IsRestOfRun main.straight.main id s items names moves
+run_from p e t main ended k id pc j s types locals [] names moves rest before straight at steps matched = absurd straight
+run_from p e t main ended k id pc j s types locals (item ∷ []) [] moves rest before straight at steps matched = absurd straight
+run_from p e t main ended k id pc j s types locals (item ∷ []) (o ∷ q ∷ names) moves rest before straight at steps matched = absurd straight
+run_from p e t main ended k id pc j s types locals (item ∷ []) (o ∷ []) [] rest before straight at steps matched = absurd (main_over _ _ steps)
+run_from p e t main ended k id pc j s types locals (item ∷ []) (o ∷ []) (mv ∷ moves) rest before straight at steps matched =
+    ends p main.straight ended id pc j s locals item o mv moves straight at steps
+run_from p e t main ended k id pc j s types locals (item ∷ next ∷ items) [] moves rest before straight at steps matched = absurd straight
+run_from p e t main ended k id pc j s types locals (item ∷ next ∷ items) (o ∷ names) [] rest before straight at steps matched = absurd (main_over _ _ steps)
+run_from p e t main ended k id pc j s types locals (item ∷ next ∷ items) (o ∷ names) (mv ∷ moves) rest before (types_after, step, straight) at (here, steps) matched =
     goes p e t m id s locals pc item next items o names mv moves does.after place does.next done
-    (run_from p e t main thread done.place (id + 1) (pc + length_of item.instr) (j + 1) (after id s (doing_of item.instr o)) types_after locals (next ∷ items) names moves done.rest
+    (run_from p e t main ended done.place (id + 1) (pc + length_of item.instr) (j + 1) (after id s (doing_of item.instr o)) types_after locals (next ∷ items) names moves done.rest
     (record { main = main; from = done.from; knows = done.knows }) straight (next_at m j item (next ∷ items) o names at)
-    (subst (λ (xs : List JavaValue). AreSteps p thread (main_at m locals (pc + length_of item.instr) xs) moves) done.stack_is
-    (subst (λ (u : List Activation). AreSteps p thread u moves) does.next steps))
+    (subst (λ (xs : List JavaValue). AreSteps p ended (main_at m locals (pc + length_of item.instr) xs) moves) done.stack_is
+    (subst (λ (u : List Activation). AreSteps p ended u moves) does.next steps))
     done.matched)
   where
     m : Method
@@ -144,7 +144,7 @@ run_from p e t main thread k id pc j s types locals (item ∷ next ∷ items) (o
     instruction = subst (λ (i : ℕ). IsInstruction m i item.instr o) step.place (stands_at m j item (next ∷ items) o names at)
 
     does : IsStepOf m locals pc (map value_of s.stack) mv.effect mv.state item.instr o
-    does = step_does p main.straight thread locals pc (map value_of s.stack) mv.effect mv.state item.instr o (names_some item.instr o types types_after step.changes) instruction here
+    does = step_does p main.straight ended locals pc (map value_of s.stack) mv.effect mv.state item.instr o (names_some item.instr o types types_after step.changes) instruction here
 
     done : IsDone p e t id s (doing_of item.instr o) mv.effect does.after (events_of moves ++ event.Last ∷ [])
     done = step_done p e t id k s rest (events_of moves ++ event.Last ∷ []) (doing_of item.instr o) mv.effect does.after before does.does (subst (HaveEvents p e rest) (pushed mv.effect.event (events_of moves) (event.Last ∷ [])) matched)
@@ -171,18 +171,18 @@ knows_initial p e all first there is_first = record {
         writes_nothing first.action kind.First is_first refl x
         (subst (λ (y : Entry). IsWrite x (Of y.action)) (same_Some n first (sym is ∙ ap (λ (i : ℕ). slice_get all i) same ∙ there)) write)
 
-one_run : (p : Prog) (e : Exec) (t : ThreadPart) (main : IsMainPart p e t) (moves : List Move) (entries : List Entry) (s : List Activation) → t.entries ≡ entries → IsEntry p t.thread s → AreSteps p t.thread s moves →
+one_run : (p : Prog) (e : Exec) (t : ThreadPart) (main : IsMainPart p e t) (moves : List Move) (entries : List Entry) (s : List Activation) → t.entries ≡ entries → IsEntry p t.thread s → AreSteps p (detects t.entries) s moves →
     HaveEvents p e entries (event.First ∷ events_of moves ++ event.Last ∷ []) → IsRestOfRun main.straight.main 1 (initial p) main.straight.main.listing main.straight.main.operands moves
 one_run p e t main moves [] s entries_are entry steps matched = absurd matched
 one_run p e t main moves (first ∷ rest) s entries_are entry steps (is_first, matched) =
-    run_from p e t main t.thread 1 1 0 0 (initial p) [] (entered_with m (parameters_of t.thread)).locals m.listing m.operands moves rest
+    run_from p e t main (detects t.entries) 1 1 0 0 (initial p) [] (entered_with m (parameters_of t.thread)).locals m.listing m.operands moves rest
     (record { main = main; from = from; knows = knows_initial p e t.entries first (ap (λ (ns : List Entry). slice_get ns 0) entries_are) is_first })
     main.straight.code
     (record {
       listed = λ i. let same : 0 + i ≡ i = omega arith in ap (λ (k : ℕ). slice_get m.listing k) same;
       named = λ i. let same : 0 + i ≡ i = omega arith in ap (λ (k : ℕ). slice_get m.operands k) same;
     })
-    (subst (λ (u : List Activation). AreSteps p t.thread u moves) start steps)
+    (subst (λ (u : List Activation). AreSteps p (detects t.entries) u moves) start steps)
     matched
   where
     m : Method

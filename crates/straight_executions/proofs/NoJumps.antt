@@ -1,10 +1,10 @@
 -- No way through straight code takes a jump, so the bounds leave out nothing but wide ints.
-use Rattle.std.proofs.Common.{◌≡◌, ◌↔◌, ◌+◌, ℕ, zero, suc, Bool, false, List, [], ◌∷◌, Some, None, slice_get, length, if◌then◌else◌, arith, sym, ◌∙◌, ap, subst}
+use Rattle.std.proofs.Common.{refl, ◌≡◌, ◌↔◌, ◌+◌, ℕ, zero, suc, Bool, false, List, [], ◌∷◌, Some, None, slice_get, length, if◌then◌else◌, arith, sym, ◌∙◌, ap, subst}
 use Rattle.std.proofs.lemmas.Option.{none-some, same_Some}
 use Rattle.opcodes.specs.Instructions.{jump_of, length_of}
 use Rattle.opcodes.specs.declared.instruction.Instr.{Instr}
 use Rattle.opcodes.specs.declared.listed.Listed.{Listed}
-use Rattle.program.specs.Bounds.{IsWhole, Place, Route, here, on, StandsAt, Successor, falls, jumps, calls, returns, ends}
+use Rattle.program.specs.Bounds.{IsWhole, Place, Hop, IsRoute, backward_jumps, StandsAt, Successor, falls, jumps, calls, returns, ends}
 use Rattle.program.specs.Program.{Prog}
 use Rattle.program.specs.Straight.{IsStraight, IsStraightFrom}
 use Rattle.program.specs.declared.method.Method.{Method}
@@ -31,21 +31,19 @@ no_jump p h at instr names stands =
     no_jump_at (length p.variables) h.main.frame.max_stack 0 [] h.main.listing h.main.operands stands.instruction.place (record { pc = at.pc; instr = instr }) h.code
     (subst (λ (m : Method). slice_get m.listing stands.instruction.place ≡ Some (record { pc = at.pc; instr = instr })) (sym (main_is p h at.method stands.method stands.is_method)) stands.instruction.listed)
 
-forward : (p : Prog) (h : IsStraight p) (s t : List Place) (backward : Bool) → Successor p s backward t → backward ≡ false
-forward p h s t backward (falls at callers instr names is_s stands through nothing is_t is) = is
-forward p h s t backward (jumps at callers instr names distance to is_s stands jump target is_t is) = absurd (none-some distance (sym (no_jump p h at instr names stands) ∙ jump))
-forward p h s t backward (calls at callers instr called is_s stands is_t is) = is
-forward p h s t backward (returns at caller callers instr call names called is_s stands return is_call is_t is) = is
-forward p h s t backward (ends at instr names is_s stands return is_t is) = is
+forward : (p : Prog) (h : IsStraight p) (s : List Place) (hop : Hop) → Successor p s hop → hop.backward ≡ false
+forward p h s hop (falls at callers instr names is_s stands through nothing is) = ap (λ (x : Hop). x.backward) is
+forward p h s hop (jumps at callers instr names distance to is_s stands jump target is) = absurd (none-some distance (sym (no_jump p h at instr names stands) ∙ jump))
+forward p h s hop (calls at callers instr called is_s stands is) = ap (λ (x : Hop). x.backward) is
+forward p h s hop (returns at caller callers instr call names called is_s stands return is_call is) = ap (λ (x : Hop). x.backward) is
+forward p h s hop (ends at instr names is_s stands return is) = ap (λ (x : Hop). x.backward) is
 
-no_backward : (p : Prog) (h : IsStraight p) (t s : List Place) (taken : ℕ) → Route p t s taken → taken ≡ 0
-no_backward p h t s taken (here is zero_is) = zero_is
-no_backward p h t s taken (on backward u rest successor route is) =
-    let zero_is : rest ≡ 0 = no_backward p h t u rest route in
-    is ∙ ap (λ (b : Bool). (if b then 1 else 0) + rest) (forward p h s u backward successor) ∙ ap (λ (n : ℕ). 0 + n) zero_is
+no_backward : (p : Prog) (h : IsStraight p) (s t : List Place) (hops : List Hop) → IsRoute p s hops t → backward_jumps hops ≡ 0
+no_backward p h s t [] route = refl
+no_backward p h s t (hop ∷ hops) (first, route) = rw (forward p h s hop first) (no_backward p h hop.to t hops route)
 
 pub is_whole : (p : Prog) (most width : ℕ) → IsStraight p → IsWhole p most width ↔ (width ≡ 32)
 is_whole p most width h = (
   (λ whole. whole.wide),
-  (λ wide. record { wide = wide; enough = λ k s t taken begins route. omega (arith, no_backward p h t s taken route) }),
+  (λ wide. record { wide = wide; enough = λ k s t hops begins route. omega (arith, no_backward p h s t hops route) }),
 )

@@ -1,5 +1,5 @@
 -- What a step does at an instruction of straight code.
-use Rattle.std.proofs.Common.{◌≡◌, ◌+◌, ℕ, ℤ, List, [], ◌∷◌, length, Bool, true, false, Option, Some, None, refl, sym, ◌∙◌, ap, subst}
+use Rattle.std.proofs.Common.{pos, ◌≡◌, ◌+◌, ℕ, ℤ, List, [], ◌∷◌, length, Bool, true, false, Option, Some, None, refl, sym, ◌∙◌, ap, subst}
 use Rattle.std.proofs.lemmas.Bool.{false≢true}
 use Rattle.std.proofs.lemmas.Option.{none-some}
 use Rattle.opcodes.specs.Instructions.{length_of}
@@ -139,44 +139,54 @@ changes_stack : (p : Prog) (s t : List Activation) (effect : Effect) (instr : In
     Executes p s t instr names before after → StepView p s effect t
 changes_stack p s t effect instr names before after unnamed not_return x = other instr names unnamed not_return (next_of p s t instr names before after x)
 
-view : (p : Prog) (k : ℕ) (s : List Activation) (effect : Effect) (t : List Activation) → Step p k s effect t → StepView p s effect t
-view p k s effect t (step.constant instr n before x is) = goes instr (operand.Constant n) before (step.Int n ∷ before) tt x (pushes_int n refl is refl)
-view p k s effect t (step.read index v n before is_int x is) = goes (Getstatic index) (operand.Variable v) before (step.Int n ∷ before) tt x (reads v n refl is refl)
-view p k s effect t (step.write index v n after x is) = goes (Putstatic index) (operand.Variable v) (step.Int n ∷ after) after tt x (writes v n refl is refl)
-view p k s effect t (step.out index before x is) = goes (Getstatic index) operand.Out before (step.Out ∷ before) tt x (pushes_out refl is refl)
-view p k s effect t (step.print instr n after x is) = goes instr operand.Print (step.Int n ∷ step.Out ∷ after) after tt x (prints n refl is refl)
-view p k s effect t (step.returned r is) = returns r is
-view p k s effect t (step.nothing stack x is) = changes_stack p s t effect Nop operand.Nothing stack stack (λ h. h) (no_return Nop refl) x
-view p k s effect t (step.drops value stack x is) = changes_stack p s t effect Pop operand.Nothing (value ∷ stack) stack (λ h. h) (no_return Pop refl) x
-view p k s effect t (step.doubles value stack x is) = changes_stack p s t effect Dup operand.Nothing (value ∷ stack) (value ∷ value ∷ stack) (λ h. h) (no_return Dup refl) x
-view p k s effect t (step.swaps a b stack x is) = changes_stack p s t effect Swap operand.Nothing (b ∷ a ∷ stack) (a ∷ b ∷ stack) (λ h. h) (no_return Swap refl) x
-view p k s effect t (step.loads_int instr slot n stack loads x holds is) =
+view : (p : Prog) (ended : ℕ → Bool) (s : List Activation) (effect : Effect) (t : List Activation) → Step p ended s effect t → StepView p s effect t
+view p ended s effect t (step.constant instr n before is_int x is) = goes instr (operand.Constant n) before (step.Int n ∷ before) tt x (pushes_int n refl is refl)
+view p ended s effect t (step.read index v n before is_int x is) = goes (Getstatic index) (operand.Variable v) before (step.Int n ∷ before) tt x (reads v n refl is refl)
+view p ended s effect t (step.write index v n after x is) = goes (Putstatic index) (operand.Variable v) (step.Int n ∷ after) after tt x (writes v n refl is refl)
+view p ended s effect t (step.out index before x is) = goes (Getstatic index) operand.Out before (step.Out ∷ before) tt x (pushes_out refl is refl)
+view p ended s effect t (step.print instr n after x is) = goes instr operand.Print (step.Int n ∷ step.Out ∷ after) after tt x (prints n refl is refl)
+view p ended s effect t (step.returned r is) = returns r is
+view p ended s effect t (step.nothing stack x is) = changes_stack p s t effect Nop operand.Nothing stack stack (λ h. h) (no_return Nop refl) x
+view p ended s effect t (step.drops value stack x is) = changes_stack p s t effect Pop operand.Nothing (value ∷ stack) stack (λ h. h) (no_return Pop refl) x
+view p ended s effect t (step.doubles value stack x is) = changes_stack p s t effect Dup operand.Nothing (value ∷ stack) (value ∷ value ∷ stack) (λ h. h) (no_return Dup refl) x
+view p ended s effect t (step.swaps a b stack x is) = changes_stack p s t effect Swap operand.Nothing (b ∷ a ∷ stack) (a ∷ b ∷ stack) (λ h. h) (no_return Swap refl) x
+view p ended s effect t (step.loads_int instr slot n stack loads x holds is) =
     changes_stack p s t effect instr operand.Nothing stack (step.Int n ∷ stack) (λ h. h) (no_part int_load_of instr slot refl loads) x
-view p k s effect t (step.loads_reference instr slot value stack loads reference x holds is) =
+view p ended s effect t (step.loads_reference instr slot value stack loads reference x holds is) =
     changes_stack p s t effect instr operand.Nothing stack (value ∷ stack) (λ h. h) (no_part reference_load_of instr slot refl loads) x
-view p k s effect t (step.stores_int instr slot n stack stores x is) = other instr operand.Nothing (λ h. h) (no_part int_store_of instr slot refl stores) x.next
-view p k s effect t (step.stores_reference instr slot value stack stores reference x is) = other instr operand.Nothing (λ h. h) (no_part reference_store_of instr slot refl stores) x.next
-view p k s effect t (step.increments slot delta n stack x holds is) = other (Iinc slot delta) operand.Nothing (λ h. h) (no_return (Iinc slot delta) refl) x.next
-view p k s effect t (step.unary instr operation a stack one x is) =
+view p ended s effect t (step.stores_int instr slot n stack stores x is) = other instr operand.Nothing (λ h. h) (no_part int_store_of instr slot refl stores) x.next
+view p ended s effect t (step.stores_reference instr slot value stack stores reference x is) = other instr operand.Nothing (λ h. h) (no_part reference_store_of instr slot refl stores) x.next
+view p ended s effect t (step.increments slot delta n stack x holds is) = other (Iinc slot delta) operand.Nothing (λ h. h) (no_return (Iinc slot delta) refl) x.next
+view p ended s effect t (step.unary instr operation a stack one x is) =
     changes_stack p s t effect instr operand.Nothing (step.Int a ∷ stack) (step.Int (operation a) ∷ stack) (λ h. h) (no_part unary_of instr operation refl one) x
-view p k s effect t (step.binary instr operation a b stack two x is) =
+view p ended s effect t (step.binary instr operation a b stack two x is) =
     changes_stack p s t effect instr operand.Nothing (step.Int b ∷ step.Int a ∷ stack) (step.Int (operation a b) ∷ stack) (λ h. h) (no_part binary_of instr operation refl two) x
-view p k s effect t (step.jumps instr condition before after target tested tests x is) = other instr operand.Nothing (λ h. h) (no_part condition_of instr condition refl tested) x.next
-view p k s effect t (step.stays instr condition before after tested tests x is) = changes_stack p s t effect instr operand.Nothing before after (λ h. h) (no_part condition_of instr condition refl tested) x
-view p k s effect t (step.calls called arguments x is) = other (Invokestatic x.index) (operand.Method called.id) (λ h. h) (no_return (Invokestatic x.index) refl) x.next
-view p k s effect t (step.returns_nothing stack method x is) = inner x.top x.caller x.callers x.stands
-view p k s effect t (step.returns_int n stack method x is) = inner x.top x.caller x.callers x.stands
-view p k s effect t (step.class_object instr m stack loads x is) =
+view p ended s effect t (step.jumps instr condition before after target tested tests x is) = other instr operand.Nothing (λ h. h) (no_part condition_of instr condition refl tested) x.next
+view p ended s effect t (step.stays instr condition before after tested tests x is) = changes_stack p s t effect instr operand.Nothing before after (λ h. h) (no_part condition_of instr condition refl tested) x
+view p ended s effect t (step.calls called arguments x is) = other (Invokestatic x.index) (operand.Method called.id) (λ h. h) (no_return (Invokestatic x.index) refl) x.next
+view p ended s effect t (step.returns_nothing stack method x is) = inner x.top x.caller x.callers x.stands
+view p ended s effect t (step.returns_int n stack method x is) = inner x.top x.caller x.callers x.stands
+view p ended s effect t (step.class_object instr m stack loads x is) =
     changes_stack p s t effect instr (operand.Monitor m) stack (step.Monitor m ∷ stack) (λ h. h) (λ same. subst LoadsConstant same loads) x
-view p k s effect t (step.lock m stack x is) = changes_stack p s t effect Monitorenter (operand.Monitor m) (step.Monitor m ∷ stack) stack (λ h. h) (no_return Monitorenter refl) x
-view p k s effect t (step.unlock m stack x is) = changes_stack p s t effect Monitorexit (operand.Monitor m) (step.Monitor m ∷ stack) stack (λ h. h) (no_return Monitorexit refl) x
-view p k s effect t (step.makes index thread stack x is) = changes_stack p s t effect (New index) (operand.Make thread) stack (step.Object thread ∷ stack) (λ h. h) (no_return (New index) refl) x
-view p k s effect t (step.constructs index thread stack x is) =
+view p ended s effect t (step.lock m stack x is) = changes_stack p s t effect Monitorenter (operand.Monitor m) (step.Monitor m ∷ stack) stack (λ h. h) (no_return Monitorenter refl) x
+view p ended s effect t (step.unlock m stack x is) = changes_stack p s t effect Monitorexit (operand.Monitor m) (step.Monitor m ∷ stack) stack (λ h. h) (no_return Monitorexit refl) x
+view p ended s effect t (step.makes index thread stack x is) = changes_stack p s t effect (New index) (operand.Make thread) stack (step.Object thread ∷ stack) (λ h. h) (no_return (New index) refl) x
+view p ended s effect t (step.constructs index thread stack x is) =
     changes_stack p s t effect (Invokespecial index) (operand.Make thread) (step.Object thread ∷ stack) stack (λ h. h) (no_return (Invokespecial index) refl) x
-view p k s effect t (step.starts index thread stack x is) =
+view p ended s effect t (step.starts index thread stack x is) =
     changes_stack p s t effect (Invokevirtual index) (operand.Start thread) (step.Object thread ∷ stack) stack (λ h. h) (no_return (Invokevirtual index) refl) x
-view p k s effect t (step.joins index thread stack x is) =
+view p ended s effect t (step.joins index thread stack x is) =
     changes_stack p s t effect (Invokevirtual index) (operand.Join thread) (step.Object thread ∷ stack) stack (λ h. h) (no_return (Invokevirtual index) refl) x
+view p ended s effect t (step.makes_target index thread stack x is) =
+    changes_stack p s t effect (New index) (operand.Target thread) stack (step.Target thread ∷ stack) (λ h. h) (no_return (New index) refl) x
+view p ended s effect t (step.constructs_target index thread stack x is) =
+    changes_stack p s t effect (Invokespecial index) (operand.Target thread) (step.Target thread ∷ stack) stack (λ h. h) (no_return (Invokespecial index) refl) x
+view p ended s effect t (step.wraps index thread stack x is) =
+    changes_stack p s t effect (Invokespecial index) (operand.Wrap thread) (step.Target thread ∷ step.Object thread ∷ stack) stack (λ h. h) (no_return (Invokespecial index) refl) x
+view p ended s effect t (step.asks_ended index thread stack over x is) =
+    changes_stack p s t effect (Invokevirtual index) (operand.Alive thread) (step.Object thread ∷ stack) (step.Int (pos 0) ∷ stack) (λ h. h) (no_return (Invokevirtual index) refl) x
+view p ended s effect t (step.asks_alive index thread stack alive x is) =
+    changes_stack p s t effect (Invokevirtual index) (operand.Alive thread) (step.Object thread ∷ stack) (step.Int (pos 1) ∷ stack) (λ h. h) (no_return (Invokevirtual index) refl) x
 
 -- main runs in no other method
 no_inner : (a b c : Activation) (callers : List Activation) → a ∷ [] ≡ b ∷ c ∷ callers → ⊥
@@ -186,9 +196,9 @@ no_inner a b c callers is = none c callers (same_callers a b [] (c ∷ callers) 
     none x xs never = cc
 
 -- at an instruction that is not the last
-pub step_does : (p : Prog) (h : IsStraight p) (k : ℕ) (locals : List (Option JavaValue)) (pc : ℕ) (stack : List JavaValue) (effect : Effect) (t : List Activation) (at : Instr) (named : Operand) →
-    NamesSome named → IsInstruction h.main pc at named → Step p k (main_at h.main locals pc stack) effect t → IsStepOf h.main locals pc stack effect t at named
-step_does p h k locals pc stack effect t at named some stands s = go (view p k (main_at h.main locals pc stack) effect t s)
+pub step_does : (p : Prog) (h : IsStraight p) (ended : ℕ → Bool) (locals : List (Option JavaValue)) (pc : ℕ) (stack : List JavaValue) (effect : Effect) (t : List Activation) (at : Instr) (named : Operand) →
+    NamesSome named → IsInstruction h.main pc at named → Step p ended (main_at h.main locals pc stack) effect t → IsStepOf h.main locals pc stack effect t at named
+step_does p h ended locals pc stack effect t at named some stands s = go (view p ended (main_at h.main locals pc stack) effect t s)
   where
     go : StepView p (main_at h.main locals pc stack) effect t → IsStepOf h.main locals pc stack effect t at named
     go (goes instr names before after named_too x does) =
@@ -204,9 +214,9 @@ pub record IsEndOf (effect : Effect) (t : List Activation) : Type 0 where
   pub ends : t ≡ []
 
 -- at the last one
-pub step_ends : (p : Prog) (h : IsStraight p) (k : ℕ) (locals : List (Option JavaValue)) (pc : ℕ) (stack : List JavaValue) (effect : Effect) (t : List Activation) →
-    IsInstruction h.main pc Return operand.Nothing → Step p k (main_at h.main locals pc stack) effect t → IsEndOf effect t
-step_ends p h k locals pc stack effect t stands s = go (view p k (main_at h.main locals pc stack) effect t s)
+pub step_ends : (p : Prog) (h : IsStraight p) (ended : ℕ → Bool) (locals : List (Option JavaValue)) (pc : ℕ) (stack : List JavaValue) (effect : Effect) (t : List Activation) →
+    IsInstruction h.main pc Return operand.Nothing → Step p ended (main_at h.main locals pc stack) effect t → IsEndOf effect t
+step_ends p h ended locals pc stack effect t stands s = go (view p ended (main_at h.main locals pc stack) effect t s)
   where
     go : StepView p (main_at h.main locals pc stack) effect t → IsEndOf effect t
     go (goes instr names before after some x does) =
@@ -216,8 +226,8 @@ step_ends p h k locals pc stack effect t stands s = go (view p k (main_at h.main
     go (inner a b callers is) = absurd (no_inner (record { method = h.main.id; pc = pc; locals = locals; stack = stack }) a b callers is)
 
 -- after the outermost return
-pub no_step : (p : Prog) (k : ℕ) (effect : Effect) (t : List Activation) → Step p k [] effect t → ⊥
-no_step p k effect t s = go (view p k [] effect t s)
+pub no_step : (p : Prog) (ended : ℕ → Bool) (effect : Effect) (t : List Activation) → Step p ended [] effect t → ⊥
+no_step p ended effect t s = go (view p ended [] effect t s)
   where
     none : (a : Activation) (xs : List Activation) → [] ≡ a ∷ xs → ⊥
     none a xs is = cc

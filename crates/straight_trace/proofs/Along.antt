@@ -1,5 +1,5 @@
 -- A run of straight code reads what stands among its ints at its reads.
-use Rattle.std.proofs.Common.{◌≡◌, ◌+◌, ◌++◌, ℕ, ℤ, List, [], ◌∷◌, Option, length, drop, slice_get, arith, refl, sym, ◌∙◌, ap, subst}
+use Rattle.std.proofs.Common.{◌≡◌, ◌+◌, ◌++◌, ℕ, Bool, ℤ, List, [], ◌∷◌, Option, length, drop, slice_get, arith, refl, sym, ◌∙◌, ap, subst}
 use Rattle.std.specs.List.{filter_map, cons_option}
 use Rattle.std.proofs.lemmas.List.{append-nil}
 use Rattle.std.proofs.lemmas.List.Elements.{filter_map-append}
@@ -50,17 +50,17 @@ main_over : (a : Activation) (xs : List Activation) → a ∷ xs ≡ [] → ⊥
 main_over a xs is = cc
 
 -- after the outermost return there is no move
-over : (p : Prog) (k : ℕ) (moves : List Move) → AreSteps p k [] moves → moves ≡ []
-over p k [] h = refl
-over p k (mv ∷ moves) (s, rest) = absurd (no_step p k mv.effect mv.state s)
+over : (p : Prog) (ended : ℕ → Bool) (moves : List Move) → AreSteps p ended [] moves → moves ≡ []
+over p ended [] h = refl
+over p ended (mv ∷ moves) (s, rest) = absurd (no_step p ended mv.effect mv.state s)
 
 -- the moves read these ints among their own
 abbrev pub ReadAmong : List Listed → List Operand → List Move → Type 0
 ReadAmong items names moves = filter_map read_of (events_of moves) ≡ reads_among items names (moved_ints moves)
 
-ends : (p : Prog) (h : IsStraight p) (k pc j : ℕ) (stack : List JavaValue) (locals : List (Option JavaValue)) (item : Listed) (o : Operand) (mv : Move) (moves : List Move) → IsStraightEnd pc item o →
-    IsAt h.main j (item ∷ []) (o ∷ []) → AreSteps p k (main_at h.main locals pc stack) (mv ∷ moves) → ReadAmong (item ∷ []) (o ∷ []) (mv ∷ moves)
-ends p h k pc j stack locals item o mv moves last at (here, rest) = rw (last.names_nothing, none)
+ends : (p : Prog) (h : IsStraight p) (ended : ℕ → Bool) (pc j : ℕ) (stack : List JavaValue) (locals : List (Option JavaValue)) (item : Listed) (o : Operand) (mv : Move) (moves : List Move) → IsStraightEnd pc item o →
+    IsAt h.main j (item ∷ []) (o ∷ []) → AreSteps p ended (main_at h.main locals pc stack) (mv ∷ moves) → ReadAmong (item ∷ []) (o ∷ []) (mv ∷ moves)
+ends p h ended pc j stack locals item o mv moves last at (here, rest) = rw (last.names_nothing, none)
     (ap (λ (f : Effect). filter_map read_of (cons_option f.event [])) end.silent_effect)
   where
     instruction : IsInstruction h.main pc Return operand.Nothing
@@ -69,10 +69,10 @@ ends p h k pc j stack locals item o mv moves last at (here, rest) = rw (last.nam
         (subst (λ (q : Operand). IsInstruction h.main item.pc item.instr q) last.names_nothing (stands_at h.main j item [] o [] at)))
 
     end : IsEndOf mv.effect mv.state
-    end = step_ends p h k locals pc stack mv.effect mv.state instruction here
+    end = step_ends p h ended locals pc stack mv.effect mv.state instruction here
 
     none : moves ≡ []
-    none = over p k moves (subst (λ (t : List Activation). AreSteps p k t moves) end.ends rest)
+    none = over p ended moves (subst (λ (t : List Activation). AreSteps p ended t moves) end.ends rest)
 
 goes : (item next : Listed) (items : List Listed) (o : Operand) (names : List Operand) (mv : Move) (moves : List Move) → Reads (doing_of item.instr o) mv.effect (events_of moves) (moved_ints moves) →
     ReadAmong (next ∷ items) names moves → ReadAmong (item ∷ next ∷ items) (o ∷ names) (mv ∷ moves)
@@ -80,40 +80,40 @@ goes item next items o names mv moves r rest = r.read
     ∙ ap (λ (xs : List ℤ). read_by (move_of (doing_of item.instr o)) (mv.effect.ints ++ moved_ints moves) ++ xs) (rest ∙ ap (reads_among (next ∷ items) names) (sym r.left))
 
 -- the run from here on
-read_from : (p : Prog) (h : IsStraight p) (k pc j : ℕ) (types : List StackType) (stack : List JavaValue) (locals : List (Option JavaValue)) (items : List Listed) (names : List Operand) (moves : List Move) →
-    IsStraightFrom (length p.variables) h.main.frame.max_stack pc types items names → IsAt h.main j items names → AreSteps p k (main_at h.main locals pc stack) moves → ReadAmong items names moves
-read_from p h k pc j types stack locals [] names moves straight at steps = absurd straight
-read_from p h k pc j types stack locals (item ∷ []) [] moves straight at steps = absurd straight
-read_from p h k pc j types stack locals (item ∷ []) (o ∷ q ∷ names) moves straight at steps = absurd straight
-read_from p h k pc j types stack locals (item ∷ []) (o ∷ []) [] straight at steps = absurd (main_over _ _ steps)
-read_from p h k pc j types stack locals (item ∷ []) (o ∷ []) (mv ∷ moves) straight at steps = ends p h k pc j stack locals item o mv moves straight at steps
-read_from p h k pc j types stack locals (item ∷ next ∷ items) [] moves straight at steps = absurd straight
-read_from p h k pc j types stack locals (item ∷ next ∷ items) (o ∷ names) [] straight at steps = absurd (main_over _ _ steps)
-read_from p h k pc j types stack locals (item ∷ next ∷ items) (o ∷ names) (mv ∷ moves) (types_after, step, straight) at (here, steps) =
+read_from : (p : Prog) (h : IsStraight p) (ended : ℕ → Bool) (pc j : ℕ) (types : List StackType) (stack : List JavaValue) (locals : List (Option JavaValue)) (items : List Listed) (names : List Operand) (moves : List Move) →
+    IsStraightFrom (length p.variables) h.main.frame.max_stack pc types items names → IsAt h.main j items names → AreSteps p ended (main_at h.main locals pc stack) moves → ReadAmong items names moves
+read_from p h ended pc j types stack locals [] names moves straight at steps = absurd straight
+read_from p h ended pc j types stack locals (item ∷ []) [] moves straight at steps = absurd straight
+read_from p h ended pc j types stack locals (item ∷ []) (o ∷ q ∷ names) moves straight at steps = absurd straight
+read_from p h ended pc j types stack locals (item ∷ []) (o ∷ []) [] straight at steps = absurd (main_over _ _ steps)
+read_from p h ended pc j types stack locals (item ∷ []) (o ∷ []) (mv ∷ moves) straight at steps = ends p h ended pc j stack locals item o mv moves straight at steps
+read_from p h ended pc j types stack locals (item ∷ next ∷ items) [] moves straight at steps = absurd straight
+read_from p h ended pc j types stack locals (item ∷ next ∷ items) (o ∷ names) [] straight at steps = absurd (main_over _ _ steps)
+read_from p h ended pc j types stack locals (item ∷ next ∷ items) (o ∷ names) (mv ∷ moves) (types_after, step, straight) at (here, steps) =
     goes item next items o names mv moves (step_reads (doing_of item.instr o) stack does.after mv.effect (events_of moves) (moved_ints moves) does.does)
-    (read_from p h k (pc + length_of item.instr) (j + 1) types_after does.after locals (next ∷ items) names moves straight (next_at h.main j item (next ∷ items) o names at)
-    (subst (λ (u : List Activation). AreSteps p k u moves) does.next steps))
+    (read_from p h ended (pc + length_of item.instr) (j + 1) types_after does.after locals (next ∷ items) names moves straight (next_at h.main j item (next ∷ items) o names at)
+    (subst (λ (u : List Activation). AreSteps p ended u moves) does.next steps))
   where
     instruction : IsInstruction h.main pc item.instr o
     instruction = subst (λ (i : ℕ). IsInstruction h.main i item.instr o) step.place (stands_at h.main j item (next ∷ items) o names at)
 
     does : IsStepOf h.main locals pc stack mv.effect mv.state item.instr o
-    does = step_does p h k locals pc stack mv.effect mv.state item.instr o (names_some item.instr o types types_after step.changes) instruction here
+    does = step_does p h ended locals pc stack mv.effect mv.state item.instr o (names_some item.instr o types types_after step.changes) instruction here
 
-from_entry : (p : Prog) (h : IsStraight p) (k : ℕ) (s : List Activation) (moves : List Move) → IsEntry p k s → AreSteps p k s moves → ReadAmong h.main.listing h.main.operands moves
-from_entry p h k s moves entry steps =
-    read_from p h k 0 0 [] [] (entered_with h.main (parameters_of k)).locals h.main.listing h.main.operands moves h.code
+from_entry : (p : Prog) (h : IsStraight p) (k : ℕ) (ended : ℕ → Bool) (s : List Activation) (moves : List Move) → IsEntry p k s → AreSteps p ended s moves → ReadAmong h.main.listing h.main.operands moves
+from_entry p h k ended s moves entry steps =
+    read_from p h ended 0 0 [] [] (entered_with h.main (parameters_of k)).locals h.main.listing h.main.operands moves h.code
     (record {
       listed = λ i. let same : 0 + i ≡ i = omega arith in ap (λ (n : ℕ). slice_get h.main.listing n) same;
       named = λ i. let same : 0 + i ≡ i = omega arith in ap (λ (n : ℕ). slice_get h.main.operands n) same;
     })
-    (subst (λ (u : List Activation). AreSteps p k u moves) start steps)
+    (subst (λ (u : List Activation). AreSteps p ended u moves) start steps)
   where
     start : s ≡ entered_with h.main (parameters_of k) ∷ []
     start = entry.start ∙ ap (λ (m : Method). entered_with m (parameters_of k) ∷ []) (sym (main_is p h entry.id entry.method entry.is_method))
 
 -- the reads of a run of main are those among its ints
-pub run_reads : (p : Prog) (h : IsStraight p) (k : ℕ) (moves : List Move) (values : List ℤ) (events : List Event) (printed : List ℤ) → IsRun p k moves values events printed →
+pub run_reads : (p : Prog) (h : IsStraight p) (k : ℕ) (ended : ℕ → Bool) (moves : List Move) (values : List ℤ) (events : List Event) (printed : List ℤ) → IsRun p k ended moves values events printed →
     values ≡ reads_among h.main.listing h.main.operands (moved_ints moves)
-run_reads p h k moves values events printed run = run.reads_are ∙ ap (filter_map read_of) run.events_are ∙
-    filter_map-append read_of (events_of moves) (event.Last ∷ []) ∙ append-nil (filter_map read_of (events_of moves)) ∙ from_entry p h k run.start moves run.entry run.steps
+run_reads p h k ended moves values events printed run = run.reads_are ∙ ap (filter_map read_of) run.events_are ∙
+    filter_map-append read_of (events_of moves) (event.Last ∷ []) ∙ append-nil (filter_map read_of (events_of moves)) ∙ from_entry p h k ended run.start moves run.entry run.steps

@@ -19,17 +19,16 @@ use Rattle.program.proofs.Lists.{contains_nil, contains_here, contains_map, cont
 use Rattle.action_orders.specs.declared.action.ActionRef.{ActionRef}
 use Rattle.action_orders.specs.declared.execution.ThreadPart.{ThreadPart}
 use Rattle.action_orders.specs.Actions.{Default, Var, variables, name_of}
-use Rattle.action_orders.specs.Runs.{HasRunWithin}
 use Rattle.straight.specs.Laws.{AreDefaults, IsJustified}
 use Rattle.straight.specs.Meaning.{execution_of, main_entries, printed_of, ints_of}
 use Rattle.straight.specs.Runs.{IsRunOf}
 use Rattle.straight.specs.declared.run.StraightRun.{StraightRun}
-use Rattle.straight.proofs.Justified.{straight_is_justified}
+use Rattle.straight.proofs.Justified.{straight_is_justified, RunOfMain, run_of_main}
 use Rattle.straight_executions.specs.OneRun.{GoAlong, IsMainAt, IsOneRun, moved_ints}
 use Rattle.straight_executions.proofs.Along.{runs_alike}
 use Rattle.thread_meaning.specs.Outcomes.{NoneTwice}
 use Rattle.thread_meaning.specs.Paths.{IsOrdered}
-use Rattle.thread_meaning.specs.Tracing.{HasRun, HasPlainRun, FindsRun, NeverTwice}
+use Rattle.thread_meaning.specs.Tracing.{HasRun, HasPlainRun, FindsRun, NeverTwice, has_ended}
 use Rattle.thread_meaning.specs.declared.end.TraceEnd.{TraceEnd}
 use Rattle.thread_meaning.specs.declared.end.TraceEnd.TheVariants as end
 use Rattle.thread_meaning.specs.declared.walk.Trace.{Trace}
@@ -67,7 +66,7 @@ never_twice m (item ∷ next ∷ items) (mv ∷ moves) (at, along) =
 record IsMainRun (p : Prog) (h : IsStraight p) (bounds : Bounds) : Type 0 where
   moves : List Move
   events : List Event
-  run : IsRun p 0 moves (reads_among h.main.listing h.main.operands (ints_of p h.main)) events (printed_of p h.main)
+  run : IsRun p 0 (has_ended 0) moves (reads_among h.main.listing h.main.operands (ints_of p h.main)) events (printed_of p h.main)
   ints : moved_ints moves ≡ ints_of p h.main
   within : InBounds moves bounds.jumps bounds.width
   once : NeverTwice moves
@@ -76,9 +75,9 @@ main_run : (p : Prog) (h : IsStraight p) (bounds : Bounds) → All (Fits bounds.
 main_run p h bounds fits = record {
   moves = r.moves;
   events = r.runs.events;
-  run = subst (λ (xs : List ℤ). IsRun p 0 r.moves xs r.runs.events (printed_of p h.main))
-      (run_reads p h 0 r.moves r.runs.reads r.runs.events r.printed r.runs.run ∙ ap (reads_among h.main.listing h.main.operands) one.ints)
-      (subst (IsRun p 0 r.moves r.runs.reads r.runs.events) one.prints r.runs.run);
+  run = subst (λ (xs : List ℤ). IsRun p 0 (has_ended 0) r.moves xs r.runs.events (printed_of p h.main))
+      (run_reads p h 0 (has_ended 0) r.moves r.runs.reads r.runs.events (printed_of p h.main) (r.any (has_ended 0)) ∙ ap (reads_among h.main.listing h.main.operands) one.ints)
+      (r.any (has_ended 0));
   ints = one.ints;
   within = r.within;
   once = never_twice h.main h.main.listing r.moves one.along;
@@ -93,11 +92,11 @@ main_run p h bounds fits = record {
     acts : Contains (execution_of p h.main).threads part
     acts = contains_here part []
 
-    r : HasRunWithin p (execution_of p h.main) bounds.jumps bounds.width part
-    r = justified.within 0 part acts refl
+    r : RunOfMain p h.main bounds.jumps bounds.width
+    r = run_of_main p h bounds.jumps bounds.width fits
 
-    one : IsOneRun p h.main r.moves r.printed
-    one = runs_alike p h (execution_of p h.main) part r.moves r.printed justified.well_formed acts r.runs
+    one : IsOneRun p h.main r.moves (printed_of p h.main)
+    one = runs_alike p h (execution_of p h.main) part r.moves (printed_of p h.main) justified.well_formed acts r.runs
 
 -- ---- What follows for the trace
 
@@ -112,17 +111,17 @@ all_ints bounds = record bounds { width = 32 }
 
 -- a run that reads what the straight run reads is the straight run
 found : (p : Prog) (h : IsStraight p) (bounds : Bounds) (events : List Event) (printed : List ℤ) → IsOrdered p → All (Fits 32) (ints_of p h.main) →
-    HasRun p 0 (reads_among h.main.listing h.main.operands (ints_of p h.main)) bounds events printed → (printed ≡ printed_of p h.main) × All (Fits bounds.width) (ints_of p h.main)
+    HasRun p 0 (has_ended 0) (reads_among h.main.listing h.main.operands (ints_of p h.main)) bounds events printed → (printed ≡ printed_of p h.main) × All (Fits bounds.width) (ints_of p h.main)
 found p h bounds events printed ordered wide run =
     let main : IsMainRun p h (all_ints bounds) = main_run p h (all_ints bounds) wide in
-    let same = one_run p 0 run.moves main.moves (reads_among h.main.listing h.main.operands (ints_of p h.main)) events main.events printed (printed_of p h.main) ordered run.run main.run in
+    let same = one_run p 0 (has_ended 0) run.moves main.moves (reads_among h.main.listing h.main.operands (ints_of p h.main)) events main.events printed (printed_of p h.main) ordered run.run main.run in
     (same.2, subst (All (Fits bounds.width)) (ap moved_ints same.0 ∙ main.ints) (fit_all bounds.width run.moves run.in_bounds.narrow))
 
 -- where the ints fit, the straight run is a run in bounds
-plain_run : (p : Prog) (h : IsStraight p) (bounds : Bounds) (main : IsMainRun p h bounds) → HasPlainRun p 0 (reads_among h.main.listing h.main.operands (ints_of p h.main)) bounds main.events (printed_of p h.main)
+plain_run : (p : Prog) (h : IsStraight p) (bounds : Bounds) (main : IsMainRun p h bounds) → HasPlainRun p 0 (has_ended 0) (reads_among h.main.listing h.main.operands (ints_of p h.main)) bounds main.events (printed_of p h.main)
 plain_run p h bounds main = record { moves = main.moves; run = main.run; in_bounds = main.within; never_twice = main.once }
 
-not_found : (p : Prog) (h : IsStraight p) (bounds : Bounds) (e : TraceEnd) → FindsRun p 0 (reads_among h.main.listing h.main.operands (ints_of p h.main)) bounds (Err e) → (e ≡ end.Memory → ⊥) →
+not_found : (p : Prog) (h : IsStraight p) (bounds : Bounds) (e : TraceEnd) → FindsRun p 0 (has_ended 0) (reads_among h.main.listing h.main.operands (ints_of p h.main)) bounds (Err e) → (e ≡ end.Memory → ⊥) →
     All (Fits bounds.width) (ints_of p h.main) → ⊥
 not_found p h bounds e exactly other fits = other (exactly main.events (printed_of p h.main) (plain_run p h bounds main))
   where
@@ -144,27 +143,27 @@ pub record IsAsked (p : Prog) (h : IsStraight p) (run : StraightRun) (reads : Li
   pub reads_are : reads ≡ reads_among h.main.listing h.main.operands run.ints
 
 tells_some : (p : Prog) (h : IsStraight p) (run : StraightRun) (reads : List ℤ) (bounds : Bounds) (events : List Event) (printed : List ℤ) → IsAsked p h run reads →
-    HasRun p 0 reads bounds events printed → TellsPrinted run bounds (Some printed)
+    HasRun p 0 (has_ended 0) reads bounds events printed → TellsPrinted run bounds (Some printed)
 tells_some p h run reads bounds events printed a has =
     let ints : run.ints ≡ ints_of p h.main = a.is_run.ints h.main h.method in
     let both = found p h bounds events printed a.ordered (subst (All (Fits 32)) ints a.wide)
-    (subst (λ (xs : List ℤ). HasRun p 0 xs bounds events printed) (a.reads_are ∙ ap (reads_among h.main.listing h.main.operands) ints) has) in
+    (subst (λ (xs : List ℤ). HasRun p 0 (has_ended 0) xs bounds events printed) (a.reads_are ∙ ap (reads_among h.main.listing h.main.operands) ints) has) in
     (both.0 ∙ sym (a.is_run.printed h.main h.method), subst (All (Fits bounds.width)) (sym ints) both.1)
 
-tells_none : (p : Prog) (h : IsStraight p) (run : StraightRun) (reads : List ℤ) (bounds : Bounds) (e : TraceEnd) → IsAsked p h run reads → FindsRun p 0 reads bounds (Err e) → (e ≡ end.Memory → ⊥) →
+tells_none : (p : Prog) (h : IsStraight p) (run : StraightRun) (reads : List ℤ) (bounds : Bounds) (e : TraceEnd) → IsAsked p h run reads → FindsRun p 0 (has_ended 0) reads bounds (Err e) → (e ≡ end.Memory → ⊥) →
     TellsPrinted run bounds None
 tells_none p h run reads bounds e a exactly other fits =
     let ints : run.ints ≡ ints_of p h.main = a.is_run.ints h.main h.method in
-    not_found p h bounds e (subst (λ (xs : List ℤ). FindsRun p 0 xs bounds (Err e)) (a.reads_are ∙ ap (reads_among h.main.listing h.main.operands) ints) exactly) other
+    not_found p h bounds e (subst (λ (xs : List ℤ). FindsRun p 0 (has_ended 0) xs bounds (Err e)) (a.reads_are ∙ ap (reads_among h.main.listing h.main.operands) ints) exactly) other
     (subst (All (Fits bounds.width)) ints fits)
 
 found_told : (p : Prog) (h : IsStraight p) (run : StraightRun) (reads : List ℤ) (bounds : Bounds) (traced : Result Trace TraceEnd) (printed : Option (List ℤ)) → IsAsked p h run reads →
-    IfOk traced (λ t. HasRun p 0 reads bounds t.events t.printed) → FindsRun p 0 reads bounds traced → IsPrintedBy traced printed → TellsPrinted run bounds printed
+    IfOk traced (λ t. HasRun p 0 (has_ended 0) reads bounds t.events t.printed) → FindsRun p 0 (has_ended 0) reads bounds traced → IsPrintedBy traced printed → TellsPrinted run bounds printed
 found_told p h run reads bounds (Ok t) printed a has exactly is = subst (TellsPrinted run bounds) (sym is) (tells_some p h run reads bounds t.events t.printed a has)
 found_told p h run reads bounds (Err e) printed a has exactly (is, other) = subst (TellsPrinted run bounds) (sym is) (tells_none p h run reads bounds e a exactly other)
 
 pub all_told : {E : Type 0} (p : Prog) (h : IsStraight p) (run : StraightRun) (reads : List ℤ) (bounds : Bounds) (traced : Result Trace TraceEnd) (answer : Result (Option (List ℤ)) E) → IsAsked p h run reads →
-    IfOk traced (λ t. HasRun p 0 reads bounds t.events t.printed) → (IsOrdered p → FindsRun p 0 reads bounds traced) → IfOk answer (IsPrintedBy traced) → IfOk answer (TellsPrinted run bounds)
+    IfOk traced (λ t. HasRun p 0 (has_ended 0) reads bounds t.events t.printed) → (IsOrdered p → FindsRun p 0 (has_ended 0) reads bounds traced) → IfOk answer (IsPrintedBy traced) → IfOk answer (TellsPrinted run bounds)
 all_told p h run reads bounds traced (Ok printed) a has exactly is = found_told p h run reads bounds traced printed a has (exactly a.ordered) is
 all_told p h run reads bounds traced (Err e) a has exactly is = is
 

@@ -48,5 +48,5 @@ pub fn printed_within(
         main.operands.as_slice(),
         run.ints.as_slice(),
     )?;
-    printed_by(trace(alloc, program, 0, reads.as_slice(), bounds))
+    printed_by(trace(alloc, program, 0, reads.as_slice(), 0, bounds))
 }

@@ -13,7 +13,7 @@ use Rattle.program.specs.declared.event.Event.TheVariants as event
 use Rattle.program.specs.declared.method.Method.{Method}
 use Rattle.program.specs.declared.method.MethodId.{MethodId}
 use Rattle.program.proofs.Lists.{contains_cases, contains_here, contains_later}
-use Rattle.thread_meaning.specs.Changes.{Change, OnTop, Makes, AreArguments, CannotTake, change_of, branches, natural_of, int_on, value_on, monitor_on, object_on, below_out, local_of, int_in, stores}
+use Rattle.thread_meaning.specs.Changes.{Change, OnTop, Makes, AreArguments, CannotTake, change_of, branches, natural_of, int_on, value_on, monitor_on, object_on, target_on, takes_object, in_int_range, asking, below_out, local_of, int_in, stores}
 use Rattle.thread_meaning.specs.Doings.{compares}
 use Rattle.thread_meaning.specs.Outcomes.{NoOutcome, Acted, Acts, NoneTwice, IsRunning, GoesOnBehind, CannotGoOn, inside, reads, calls, ends, returns, returns_int}
 use Rattle.thread_meaning.specs.Paths.{read_in}
@@ -61,14 +61,25 @@ branched behind a stack distance true c h = option_and_then_some _ (natural_of (
     forward target = le_or_lt target a.pc
 branched behind a stack distance false c h = kept_by behind a _ c h (on behind a stack silent refl)
 
+asking_reads : (k : ℕ) (ended : Bool) → read_in (asking k ended) ≡ None
+asking_reads k true = refl
+asking_reads k false = refl
+
 pub kept : (d : Doing) (behind : ℕ) (a : Activation) (c : Change) → change_of d behind a ≡ Some c → Kept behind a c
-kept (doing.Push n) behind a c h = kept_by behind a _ c h (on behind a _ _ refl)
+kept (doing.Push n) behind a c h = let y = passed (in_int_range n) _ c h in kept_same behind a _ c y.is (on behind a _ _ refl)
 kept (doing.Put v) behind a c h = kept_by behind a _ c h (on behind a _ _ refl)
 kept (doing.Lock m) behind a c h = option_and_then_some _ (monitor_on a.stack) c h (λ t top more. let y = passed (nat_eq t.top m) _ c more in kept_same behind a _ c y.is (on behind a t.rest _ refl))
 kept (doing.Unlock m) behind a c h = option_and_then_some _ (monitor_on a.stack) c h (λ t top more. let y = passed (nat_eq t.top m) _ c more in kept_same behind a _ c y.is (on behind a t.rest _ refl))
 kept (doing.Construct k) behind a c h = option_and_then_some _ (object_on a.stack) c h (λ t top more. let y = passed (nat_eq t.top k) _ c more in kept_same behind a _ c y.is (on behind a t.rest _ refl))
 kept (doing.Start k) behind a c h = option_and_then_some _ (object_on a.stack) c h (λ t top more. let y = passed (nat_eq t.top k) _ c more in kept_same behind a _ c y.is (on behind a t.rest _ refl))
 kept (doing.Join k) behind a c h = option_and_then_some _ (object_on a.stack) c h (λ t top more. let y = passed (nat_eq t.top k) _ c more in kept_same behind a _ c y.is (on behind a t.rest _ refl))
+kept (doing.ConstructTarget k) behind a c h = option_and_then_some _ (target_on a.stack) c h (λ t top more. let y = passed (nat_eq t.top k) _ c more in kept_same behind a _ c y.is (on behind a t.rest _ refl))
+kept (doing.Wrap k) behind a c h = option_and_then_some _ (target_on a.stack) c h (λ t top more. below t (nat_eq t.top k) more)
+  where
+    below : (t : OnTop ℕ) (b : Bool) → (if b then takes_object (record a { stack = t.rest }) behind k silent else None) ≡ Some c → Kept behind a c
+    below t true more = option_and_then_some _ (object_on t.rest) c more (λ u top last. let y = passed (nat_eq u.top k) _ c last in kept_same behind a _ c y.is (on behind a u.rest _ refl))
+    below t false more = absurd (none-some c more)
+kept (doing.Ask k ended) behind a c h = option_and_then_some _ (object_on a.stack) c h (λ t top more. let y = passed (nat_eq t.top k) _ c more in kept_same behind a _ c y.is (on behind a _ _ (asking_reads k ended)))
 kept (doing.Write v) behind a c h = option_and_then_some _ (int_on a.stack) c h (λ t top is. kept_by behind a _ c is (on behind a t.rest _ refl))
 kept doing.Print behind a c h = option_and_then_some _ (int_on a.stack) c h (λ t top more. option_and_then_some _ (below_out t.rest) c more (λ rest under is. kept_by behind a _ c is (on behind a rest _ refl)))
 kept doing.Nothing behind a c h = kept_by behind a _ c h (on behind a _ _ refl)

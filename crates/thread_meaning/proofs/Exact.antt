@@ -34,19 +34,19 @@ use Rattle.thread_meaning.proofs.Stepping.{outcome_here}
 use Rattle.thread_meaning.proofs.Unique.{one_method}
 
 -- the run passes where the moves arrive
-along : (p : Prog) (k : ℕ) (values : List ℤ) (bounds : Bounds) (moves : List Move) (s : List Activation) (left : List ℤ) (events : List Event) (printed : List ℤ) → IsOrdered p → Arrives p k values bounds moves s left →
-    (r : HasPlainRun p k values bounds events printed) → Passes p k s moves r.moves left
-along p k values bounds moves s left events printed ordered a r =
-    passes p k a.start s moves r.moves left ordered a.leads
-    (subst (λ (x : List Activation). AreSteps p k x r.moves) (one_entry p k r.run.start a.start ordered r.run.entry a.entry) r.run.steps)
-    (sym (reads_are p k r.moves values events printed r.run) ∙ a.reads_are)
+along : (p : Prog) (k : ℕ) (ended : ℕ → Bool) (values : List ℤ) (bounds : Bounds) (moves : List Move) (s : List Activation) (left : List ℤ) (events : List Event) (printed : List ℤ) → IsOrdered p → Arrives p k ended values bounds moves s left →
+    (r : HasPlainRun p k ended values bounds events printed) → Passes p ended s moves r.moves left
+along p k ended values bounds moves s left events printed ordered a r =
+    passes p ended a.start s moves r.moves left ordered a.leads
+    (subst (λ (x : List Activation). AreSteps p ended x r.moves) (one_entry p k r.run.start a.start ordered r.run.entry a.entry) r.run.steps)
+    (sym (reads_are p k ended r.moves values events printed r.run) ∙ a.reads_are)
 
 -- the outcome at an instruction that comes next
-outcome_next : (p : Prog) (k : ℕ) (s : List Activation) (i : Instr) (o : Operand) (next : ComesNext p s i o) (e : Effect) (t : List Activation) → IsOrdered p → Step p k s e t →
-    Outcome p next.method.frame.monitor (doing_of i o) (next.top.pc + length_of i) next.top next.callers e t
-outcome_next p k s i o next e t ordered step =
-    outcome_here p next.method i o next.top next.callers s e t next.stands next.is_method (λ x is_x. one_method p next.top.method next.method x ordered.distinct next.is_method is_x)
-    (ordered.by_pc next.method next.is_method.reached) next.instruction (normal p k s e t step)
+outcome_next : (p : Prog) (ended : ℕ → Bool) (s : List Activation) (i : Instr) (o : Operand) (next : ComesNext p s i o) (e : Effect) (t : List Activation) → IsOrdered p → Step p ended s e t →
+    Outcome p next.method.frame.monitor (doing_of ended i o) (next.top.pc + length_of i) next.top next.callers e t
+outcome_next p ended s i o next e t ordered step =
+    outcome_here p ended next.method i o next.top next.callers s e t next.stands next.is_method (λ x is_x. one_method p next.top.method next.method x ordered.distinct next.is_method is_x)
+    (ordered.by_pc next.method next.is_method.reached) next.instruction (normal p ended s e t step)
 
 reading : (p : Prog) (m : Option ℕ) (d : Doing) (v behind : ℕ) (a : Activation) (callers : List Activation) (e : Effect) (t : List Activation) → d ≡ doing.Read v → Outcome p m d behind a callers e t → (n : ℤ) × (read_in e ≡ Some n)
 reading p m d v behind a callers e t is (inside b h goes) = absurd (none-some _ (subst (λ (x : Doing). change_of x behind a ≡ Some (record { effect = e; after = b })) is h))
@@ -56,10 +56,10 @@ reading p m d v behind a callers e t is (ends does alone effect goes) = absurd (
 reading p m d v behind a callers e t is (returns caller others calling call called does under is_calling at effect goes) = absurd (cc)
 reading p m d v behind a callers e t is (returns_int n below caller others calling call called does stack under is_calling at effect goes) = absurd (cc)
 
-no_read_short : (p : Prog) (k : ℕ) (s : List Activation) (rest : List Move) → IsOrdered p → NextReads p s → AreSteps p k s rest → reads_of rest ≡ [] → ⊥
-no_read_short p k s [] ordered next steps none = let never : [] ≡ next.next.top ∷ next.next.callers = sym steps ∙ next.next.stands in cc
-no_read_short p k s (m ∷ rest) ordered next steps none = go (reading p next.next.method.frame.monitor (doing.Read next.variable) next.variable (next.next.top.pc + length_of (instr.Getstatic next.index)) next.next.top next.next.callers m.effect m.state refl
-    (outcome_next p k s (instr.Getstatic next.index) (operand.Variable next.variable) next.next m.effect m.state ordered steps.0))
+no_read_short : (p : Prog) (ended : ℕ → Bool) (s : List Activation) (rest : List Move) → IsOrdered p → NextReads p s → AreSteps p ended s rest → reads_of rest ≡ [] → ⊥
+no_read_short p ended s [] ordered next steps none = let never : [] ≡ next.next.top ∷ next.next.callers = sym steps ∙ next.next.stands in cc
+no_read_short p ended s (m ∷ rest) ordered next steps none = go (reading p next.next.method.frame.monitor (doing.Read next.variable) next.variable (next.next.top.pc + length_of (instr.Getstatic next.index)) next.next.top next.next.callers m.effect m.state refl
+    (outcome_next p ended s (instr.Getstatic next.index) (operand.Variable next.variable) next.next m.effect m.state ordered steps.0))
   where
     go : (n : ℤ) × (read_in m.effect ≡ Some n) → ⊥
     go (n, is) = let never : n ∷ reads_of rest ≡ [] = ap (λ (o : Option ℤ). cons_option o (reads_of rest)) (sym is) ∙ sym (reads_first m rest) ∙ none in cc
@@ -67,16 +67,16 @@ no_read_short p k s (m ∷ rest) ordered next steps none = go (reading p next.ne
 -- ---- Steps that leave the bounds
 
 -- the run's next move is this step
-record IsNext (p : Prog) (k : ℕ) (s : List Activation) (e : Effect) (rest : List Move) : Type 0 where
+record IsNext (p : Prog) (ended : ℕ → Bool) (s : List Activation) (e : Effect) (rest : List Move) : Type 0 where
   pub move : Move
   pub others : List Move
   pub is : rest ≡ move ∷ others
   pub effect : move.effect ≡ e
 
-next_move : (p : Prog) (k : ℕ) (s t : List Activation) (e : Effect) (rest : List Move) (left : List ℤ) → IsOrdered p → Step p k s e t → AreSteps p k s rest → reads_of rest ≡ cons_option (read_in e) left → IsNext p k s e rest
-next_move p k s t e [] left ordered step steps values = absurd (no_step_behind p k s t e steps step)
-next_move p k s t e (m ∷ rest) left ordered step steps values =
-    let same = same_first p k s (record { effect = e; state = t }) m (reads_of rest) left [] ordered step steps.0 (sym (reads_first m rest) ∙ values ∙ sym (append-nil (cons_option (read_in e) left))) in
+next_move : (p : Prog) (ended : ℕ → Bool) (s t : List Activation) (e : Effect) (rest : List Move) (left : List ℤ) → IsOrdered p → Step p ended s e t → AreSteps p ended s rest → reads_of rest ≡ cons_option (read_in e) left → IsNext p ended s e rest
+next_move p ended s t e [] left ordered step steps values = absurd (no_step_behind p ended s t e steps step)
+next_move p ended s t e (m ∷ rest) left ordered step steps values =
+    let same = same_first p ended s (record { effect = e; state = t }) m (reads_of rest) left [] ordered step steps.0 (sym (reads_first m rest) ∙ values ∙ sym (append-nil (cons_option (read_in e) left))) in
     record { move = m; others = rest; is = refl; effect = sym same.0 }
 
 all_move : (P : Move → Type 0) (moves all : List Move) (m : Move) (rest others : List Move) → All P all → all ≡ moves ++ rest → rest ≡ m ∷ others → P m
@@ -110,49 +110,49 @@ called_within p m id behind a callers e t (ends does alone effect goes) running 
 called_within p m id behind a callers e t (returns caller others calling call called does under is_calling at effect goes) running none = cc
 called_within p m id behind a callers e t (returns_int n below caller others calling call called does stack under is_calling at effect goes) running none = cc
 
-calls_itself : (p : Prog) (k : ℕ) (s : List Activation) (rest : List Move) → IsOrdered p → CallsItself p s → AreSteps p k s rest → ((m : Move) (others : List Move) → rest ≡ m ∷ others → NoneTwice m.state) → ⊥
-calls_itself p k s [] ordered itself steps none = let never : [] ≡ itself.next.top ∷ itself.next.callers = sym steps ∙ itself.next.stands in cc
-calls_itself p k s (m ∷ rest) ordered itself steps none =
+calls_itself : (p : Prog) (ended : ℕ → Bool) (s : List Activation) (rest : List Move) → IsOrdered p → CallsItself p s → AreSteps p ended s rest → ((m : Move) (others : List Move) → rest ≡ m ∷ others → NoneTwice m.state) → ⊥
+calls_itself p ended s [] ordered itself steps none = let never : [] ≡ itself.next.top ∷ itself.next.callers = sym steps ∙ itself.next.stands in cc
+calls_itself p ended s (m ∷ rest) ordered itself steps none =
     called_within p itself.next.method.frame.monitor itself.id (itself.next.top.pc + length_of (instr.Invokestatic itself.index)) itself.next.top itself.next.callers m.effect m.state
-    (outcome_next p k s (instr.Invokestatic itself.index) (operand.Method itself.id) itself.next m.effect m.state ordered steps.0)
+    (outcome_next p ended s (instr.Invokestatic itself.index) (operand.Method itself.id) itself.next m.effect m.state ordered steps.0)
     (subst (λ (x : List Activation). IsRunning x itself.id) itself.next.stands itself.running) (none m rest refl)
 
 -- ---- All refusals
 
-not_linked : (p : Prog) (k : ℕ) (values : List ℤ) (bounds : Bounds) (events : List Event) (printed : List ℤ) → IsOrdered p → IsNotLinked p k values bounds → HasPlainRun p k values bounds events printed → ⊥
-not_linked p k values bounds events printed ordered (no_entry none) r = none r.run.start r.run.entry
-not_linked p k values bounds events printed ordered (no_step moves s left a some none) r = go (along p k values bounds moves s left events printed ordered a r)
+not_linked : (p : Prog) (k : ℕ) (ended : ℕ → Bool) (values : List ℤ) (bounds : Bounds) (events : List Event) (printed : List ℤ) → IsOrdered p → IsNotLinked p k ended values bounds → HasPlainRun p k ended values bounds events printed → ⊥
+not_linked p k ended values bounds events printed ordered (no_entry none) r = none r.run.start r.run.entry
+not_linked p k ended values bounds events printed ordered (no_step moves s left a some none) r = go (along p k ended values bounds moves s left events printed ordered a r)
   where
-    stuck : (rest : List Move) → AreSteps p k s rest → ⊥
+    stuck : (rest : List Move) → AreSteps p ended s rest → ⊥
     stuck [] steps = some steps
     stuck (m ∷ rest) steps = none m.effect m.state steps.0
 
-    go : Passes p k s moves r.moves left → ⊥
+    go : Passes p ended s moves r.moves left → ⊥
     go x = stuck x.rest x.goes
-not_linked p k values bounds events printed ordered (within moves s left a itself) r = go (along p k values bounds moves s left events printed ordered a r)
+not_linked p k ended values bounds events printed ordered (within moves s left a itself) r = go (along p k ended values bounds moves s left events printed ordered a r)
   where
-    go : Passes p k s moves r.moves left → ⊥
-    go x = calls_itself p k s x.rest ordered itself x.goes (λ m others next. all_move (λ (m : Move). NoneTwice m.state) moves r.moves m x.rest others r.never_twice x.is next)
+    go : Passes p ended s moves r.moves left → ⊥
+    go x = calls_itself p ended s x.rest ordered itself x.goes (λ m others next. all_move (λ (m : Move). NoneTwice m.state) moves r.moves m x.rest others r.never_twice x.is next)
 
-pub refusals_are_exact : (p : Prog) (k : ℕ) (values : List ℤ) (bounds : Bounds) (e : TraceEnd) (events : List Event) (printed : List ℤ) → IsOrdered p → IsRefused p k values bounds e → e ≢ end.Memory →
-    HasPlainRun p k values bounds events printed → ⊥
-refusals_are_exact p k values bounds end.ReadsShort events printed ordered h other r =
-    let x = along p k values bounds h.moves h.state [] events printed ordered h.arrives r in no_read_short p k h.state x.rest ordered h.next x.goes x.reads
-refusals_are_exact p k values bounds (end.ReadsLeft count) events printed ordered h other r =
-    let x = along p k values bounds h.moves [] h.left events printed ordered h.arrives r in
-    let none : h.left ≡ [] = sym x.reads ∙ ap reads_of (nothing_behind p k x.rest x.goes) in
+pub refusals_are_exact : (p : Prog) (k : ℕ) (ended : ℕ → Bool) (values : List ℤ) (bounds : Bounds) (e : TraceEnd) (events : List Event) (printed : List ℤ) → IsOrdered p → IsRefused p k ended values bounds e → e ≢ end.Memory →
+    HasPlainRun p k ended values bounds events printed → ⊥
+refusals_are_exact p k ended values bounds end.ReadsShort events printed ordered h other r =
+    let x = along p k ended values bounds h.moves h.state [] events printed ordered h.arrives r in no_read_short p ended h.state x.rest ordered h.next x.goes x.reads
+refusals_are_exact p k ended values bounds (end.ReadsLeft count) events printed ordered h other r =
+    let x = along p k ended values bounds h.moves [] h.left events printed ordered h.arrives r in
+    let none : h.left ≡ [] = sym x.reads ∙ ap reads_of (nothing_behind p ended x.rest x.goes) in
     let zero : length h.left ≡ 0 = ap length none in
     omega (arith, zero, h.count_is, h.some)
-refusals_are_exact p k values bounds end.PastJumps events printed ordered h other r =
-    let x = along p k values bounds h.moves h.state (cons_option (read_in h.effect) h.left) events printed ordered h.arrives r in
-    let n = next_move p k h.state h.next h.effect x.rest h.left ordered h.step x.goes x.reads in
+refusals_are_exact p k ended values bounds end.PastJumps events printed ordered h other r =
+    let x = along p k ended values bounds h.moves h.state (cons_option (read_in h.effect) h.left) events printed ordered h.arrives r in
+    let n = next_move p ended h.state h.next h.effect x.rest h.left ordered h.step x.goes x.reads in
     too_many_jumps h.moves r.moves n.move x.rest n.others h.effect bounds.jumps x.is n.is n.effect h.backward h.used r.in_bounds.few_jumps
-refusals_are_exact p k values bounds end.PastWidth events printed ordered h other r =
-    let x = along p k values bounds h.moves h.state (cons_option (read_in h.effect) h.left) events printed ordered h.arrives r in
-    let n = next_move p k h.state h.next h.effect x.rest h.left ordered h.step x.goes x.reads in
+refusals_are_exact p k ended values bounds end.PastWidth events printed ordered h other r =
+    let x = along p k ended values bounds h.moves h.state (cons_option (read_in h.effect) h.left) events printed ordered h.arrives r in
+    let n = next_move p ended h.state h.next h.effect x.rest h.left ordered h.step x.goes x.reads in
     h.wide (subst (λ (f : Effect). All (Fits bounds.width) f.ints) n.effect (all_move (λ (m : Move). All (Fits bounds.width) m.effect.ints) h.moves r.moves n.move x.rest n.others r.in_bounds.narrow x.is n.is))
-refusals_are_exact p k values bounds end.NotLinked events printed ordered h other r = not_linked p k values bounds events printed ordered h r
-refusals_are_exact p k values bounds end.Memory events printed ordered h other r = other refl
+refusals_are_exact p k ended values bounds end.NotLinked events printed ordered h other r = not_linked p k ended values bounds events printed ordered h r
+refusals_are_exact p k ended values bounds end.Memory events printed ordered h other r = other refl
 
 not_memory : (e : TraceEnd) → (e ≡ end.Memory) ⊎ (e ≢ end.Memory)
 not_memory end.Memory = inl refl
@@ -162,11 +162,11 @@ not_memory end.PastJumps = inr (λ h. cc)
 not_memory end.PastWidth = inr (λ h. cc)
 not_memory end.NotLinked = inr (λ h. cc)
 
-pub finds_run : (p : Prog) (k : ℕ) (values : List ℤ) (bounds : Bounds) (r : Result Trace TraceEnd) → IsOrdered p → IfOk r (λ t. HasRun p k values bounds t.events t.printed) → IfErr r (IsRefused p k values bounds) →
-    FindsRun p k values bounds r
-finds_run p k values bounds (Ok t) ordered ok err = λ events printed plain.
-    let same = one_run p k ok.moves plain.moves values t.events events t.printed printed ordered ok.run plain.run in (same.1, same.2)
-finds_run p k values bounds (Err e) ordered ok err = λ events printed plain. elim (not_memory e) [
+pub finds_run : (p : Prog) (k : ℕ) (ended : ℕ → Bool) (values : List ℤ) (bounds : Bounds) (r : Result Trace TraceEnd) → IsOrdered p → IfOk r (λ t. HasRun p k ended values bounds t.events t.printed) → IfErr r (IsRefused p k ended values bounds) →
+    FindsRun p k ended values bounds r
+finds_run p k ended values bounds (Ok t) ordered ok err = λ events printed plain.
+    let same = one_run p k ended ok.moves plain.moves values t.events events t.printed printed ordered ok.run plain.run in (same.1, same.2)
+finds_run p k ended values bounds (Err e) ordered ok err = λ events printed plain. elim (not_memory e) [
   | inl is ↦ is
-  | inr other ↦ absurd (refusals_are_exact p k values bounds e events printed ordered err other plain)
+  | inr other ↦ absurd (refusals_are_exact p k ended values bounds e events printed ordered err other plain)
 ]

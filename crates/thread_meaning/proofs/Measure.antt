@@ -85,11 +85,11 @@ known_outcome p m d behind a callers e t (returns caller others calling call cal
 known_outcome p m d behind a callers e t (returns_int n below caller others calling call called does stack under is_calling at is goes) known =
     subst (AreKnown p) (sym goes) (known_same p caller (record caller { pc = caller.pc + length_of call; stack = Int n ∷ caller.stack }) others refl (subst (AreKnown p) under (known_tail p a callers known)))
 
-pub known_step : (p : Prog) (k : ℕ) (s t : List Activation) (e : Effect) → Step p k s e t → AreKnown p s → AreKnown p t
-known_step p k s t e step known = go (normal p k s e t step)
+pub known_step : (p : Prog) (ended : ℕ → Bool) (s t : List Activation) (e : Effect) → Step p ended s e t → AreKnown p s → AreKnown p t
+known_step p ended s t e step known = go (normal p ended s e t step)
   where
-    go : Normal p s e t → AreKnown p t
-    go n = known_outcome p n.method.frame.monitor (doing_of n.instr n.names) (n.top.pc + length_of n.instr) n.top n.callers e t n.outcome (subst (AreKnown p) n.stands known)
+    go : Normal p ended s e t → AreKnown p t
+    go n = known_outcome p n.method.frame.monitor (doing_of ended n.instr n.names) (n.top.pc + length_of n.instr) n.top n.callers e t n.outcome (subst (AreKnown p) n.stands known)
 
 -- ---- The code that is left, as a number to the base w; a frame counts from where it stands, a caller from behind its call
 
@@ -225,10 +225,10 @@ smaller_outcome p m d i w methods jumps jumps' a callers e t big low few fits us
 smaller_outcome p m d i w methods jumps jumps' a callers e t big low few fits used (returns_int n below caller others calling call called does stack under is_calling at is goes) =
     returning w methods jumps jumps' a caller (record caller { pc = caller.pc + length_of call; stack = Int n ∷ caller.stack }) callers others t e big low under goes few (omega arith) used
 
-pub smaller : (p : Prog) (k w methods jumps jumps' : ℕ) (s t : List Activation) (e : Effect) → 2 ≤ w → IsBelow (w - 1) s → length s ≤ methods → length t ≤ methods → jumps' + (if e.backward then 1 else 0) ≡ jumps → Step p k s e t →
+pub smaller : (p : Prog) (ended : ℕ → Bool) (w methods jumps jumps' : ℕ) (s t : List Activation) (e : Effect) → 2 ≤ w → IsBelow (w - 1) s → length s ≤ methods → length t ≤ methods → jumps' + (if e.backward then 1 else 0) ≡ jumps → Step p ended s e t →
     left_to_do w methods jumps' t < left_to_do w methods jumps s
-smaller p k w methods jumps jumps' s t e big low few fits used step = go (normal p k s e t step)
+smaller p ended w methods jumps jumps' s t e big low few fits used step = go (normal p ended s e t step)
   where
-    go : Normal p s e t → left_to_do w methods jumps' t < left_to_do w methods jumps s
+    go : Normal p ended s e t → left_to_do w methods jumps' t < left_to_do w methods jumps s
     go n = subst (λ (x : List Activation). left_to_do w methods jumps' t < left_to_do w methods jumps x) (sym n.stands)
-        (smaller_outcome p n.method.frame.monitor (doing_of n.instr n.names) n.instr w methods jumps jumps' n.top n.callers e t big (subst (IsBelow (w - 1)) n.stands low) (subst (λ (x : List Activation). length x ≤ methods) n.stands few) fits used n.outcome)
+        (smaller_outcome p n.method.frame.monitor (doing_of ended n.instr n.names) n.instr w methods jumps jumps' n.top n.callers e t big (subst (IsBelow (w - 1)) n.stands low) (subst (λ (x : List Activation). length x ≤ methods) n.stands few) fits used n.outcome)

@@ -1,5 +1,5 @@
 -- A step is determined by its state, and by the value that it reads.
-use Rattle.std.proofs.Common.{◌≡◌, ◌+◌, ◌++◌, ◌⊎◌, ℕ, ℤ, List, [], ◌∷◌, Option, Some, None, length, reverse, refl, sym, ap, subst, ◌∙◌, inl, inr, arith, false}
+use Rattle.std.proofs.Common.{◌≡◌, ◌+◌, ◌++◌, ◌⊎◌, ℕ, ℤ, Bool, List, [], ◌∷◌, Option, Some, None, length, reverse, refl, sym, ap, subst, ◌∙◌, inl, inr, arith, false}
 use Rattle.std.proofs.lemmas.List.{length-reverse, reverse-reverse}
 use Rattle.std.proofs.lemmas.Option.{none-some, same_Some}
 use Rattle.std.specs.Option.{option_map}
@@ -148,24 +148,24 @@ one_outcome p m d behind a callers e f t u ordered (returns_int n below caller o
 one_outcome p m d behind a callers e f t u ordered (returns_int n below caller others calling call called does stack under is_calling at is goes) (returns caller' others' calling' call' called' does' under' is_calling' at' is' goes') = absurd (cc)
 
 -- two steps from one state are equal, or both read
-pub alike : (p : Prog) (k : ℕ) (s t u : List Activation) (e f : Effect) → IsOrdered p → Step p k s e t → Step p k s f u → Alike e f t u
-alike p k s t u e f ordered x y = go (normal p k s e t x) (normal p k s f u y)
+pub alike : (p : Prog) (ended : ℕ → Bool) (s t u : List Activation) (e f : Effect) → IsOrdered p → Step p ended s e t → Step p ended s f u → Alike e f t u
+alike p ended s t u e f ordered x y = go (normal p ended s e t x) (normal p ended s f u y)
   where
-    go : Normal p s e t → Normal p s f u → Alike e f t u
+    go : Normal p ended s e t → Normal p ended s f u → Alike e f t u
     go m n =
         let stacks : m.top ∷ m.callers ≡ n.top ∷ n.callers = sym m.stands ∙ n.stands in
         let tops : m.top ≡ n.top = cc in
         let callers : m.callers ≡ n.callers = cc in
         let place = same_place p m.top n.top m.method n.method m.instr n.instr m.names n.names (λ x is_x. one_method p m.top.method m.method x ordered.distinct m.is_method is_x) (ordered.by_pc m.method m.is_method.reached) tops m.is_method n.is_method m.instruction n.instruction in
-        one_outcome p m.method.frame.monitor (doing_of m.instr m.names) (m.top.pc + length_of m.instr) m.top m.callers e f t u ordered m.outcome
-        (subst (λ (c : List Activation). Outcome p m.method.frame.monitor (doing_of m.instr m.names) (m.top.pc + length_of m.instr) m.top c f u) (sym callers)
-        (subst (λ (a : Activation). Outcome p m.method.frame.monitor (doing_of m.instr m.names) (a.pc + length_of m.instr) a n.callers f u) (sym tops)
-        (subst (λ (o : Operand). Outcome p m.method.frame.monitor (doing_of m.instr o) (n.top.pc + length_of m.instr) n.top n.callers f u) (sym place.names)
-        (subst (λ (i : Instr). Outcome p m.method.frame.monitor (doing_of i n.names) (n.top.pc + length_of i) n.top n.callers f u) (sym place.instr)
-        (subst (λ (w : Method). Outcome p w.frame.monitor (doing_of n.instr n.names) (n.top.pc + length_of n.instr) n.top n.callers f u) (sym place.method) n.outcome)))))
+        one_outcome p m.method.frame.monitor (doing_of ended m.instr m.names) (m.top.pc + length_of m.instr) m.top m.callers e f t u ordered m.outcome
+        (subst (λ (c : List Activation). Outcome p m.method.frame.monitor (doing_of ended m.instr m.names) (m.top.pc + length_of m.instr) m.top c f u) (sym callers)
+        (subst (λ (a : Activation). Outcome p m.method.frame.monitor (doing_of ended m.instr m.names) (a.pc + length_of m.instr) a n.callers f u) (sym tops)
+        (subst (λ (o : Operand). Outcome p m.method.frame.monitor (doing_of ended m.instr o) (n.top.pc + length_of m.instr) n.top n.callers f u) (sym place.names)
+        (subst (λ (i : Instr). Outcome p m.method.frame.monitor (doing_of ended i n.names) (n.top.pc + length_of i) n.top n.callers f u) (sym place.instr)
+        (subst (λ (w : Method). Outcome p w.frame.monitor (doing_of ended n.instr n.names) (n.top.pc + length_of n.instr) n.top n.callers f u) (sym place.method) n.outcome)))))
 
-pub one_step : (p : Prog) (k : ℕ) (s t u : List Activation) (e f : Effect) → IsOrdered p → Step p k s e t → Step p k s f u → read_in e ≡ read_in f → (e ≡ f) × (t ≡ u)
-one_step p k s t u e f ordered x y same = go (alike p k s t u e f ordered x y)
+pub one_step : (p : Prog) (ended : ℕ → Bool) (s t u : List Activation) (e f : Effect) → IsOrdered p → Step p ended s e t → Step p ended s f u → read_in e ≡ read_in f → (e ≡ f) × (t ≡ u)
+one_step p ended s t u e f ordered x y same = go (alike p ended s t u e f ordered x y)
   where
     go : Alike e f t u → (e ≡ f) × (t ≡ u)
     go (inl r) = r

@@ -1,5 +1,5 @@
 -- What the code does at an instruction is the step of the thread.
-use Rattle.std.proofs.Common.{◌≡◌, ◌<◌, ◌^◌, ◌+◌, ℕ, ℤ, List, ◌∷◌, Option, Result, Ok, Err, refl, sym, ap, subst, ◌∙◌, inl, inr}
+use Rattle.std.proofs.Common.{◌≡◌, ◌<◌, ◌^◌, ◌+◌, ℕ, ℤ, Bool, List, ◌∷◌, Option, Result, Ok, Err, refl, sym, ap, subst, ◌∙◌, inl, inr}
 use Rattle.opcodes.specs.Instructions.{length_of}
 use Rattle.opcodes.specs.Listing.{IsByPc}
 use Rattle.opcodes.specs.declared.instruction.Instr.{Instr}
@@ -46,77 +46,89 @@ record IsRead (i : Instr) (o : Operand) (v : ℕ) : Type 0 where
   pub instr : i ≡ instr.Getstatic index
   pub names : o ≡ operand.Variable v
 
-is_read : (i : Instr) (o : Operand) (v : ℕ) → doing_of i o ≡ doing.Read v → IsRead i o v
-is_read i (operand.Constant n) v h = absurd (subst NotRead h tt)
-is_read i operand.Print v h = absurd (subst NotRead h tt)
-is_read (instr.Getstatic index) (operand.Variable w) v h = record { index = index; instr = refl; names = let same : w ≡ v = cc in ap operand.Variable same }
-is_read instr.Monitorenter (operand.Monitor m) v h = absurd (subst NotRead h tt)
-is_read (instr.New index) (operand.Make k) v h = absurd (subst NotRead h tt)
-is_read (instr.Invokevirtual index) (operand.Start k) v h = absurd (subst NotRead h tt)
-is_read (instr.Invokevirtual index) (operand.Join k) v h = absurd (subst NotRead h tt)
-is_read (instr.Getstatic index) operand.Out v h = absurd (subst NotRead h tt)
-is_read (instr.Invokestatic index) (operand.Method called) v h = absurd (subst NotRead h tt)
-is_read instr.Nop operand.Nothing v h = absurd (subst NotRead h tt)
-is_read _ _ v h = absurd (subst NotRead h tt)
+is_read : (ended : ℕ → Bool) (i : Instr) (o : Operand) (v : ℕ) → doing_of ended i o ≡ doing.Read v → IsRead i o v
+is_read ended i (operand.Constant n) v h = absurd (subst NotRead h tt)
+is_read ended i operand.Print v h = absurd (subst NotRead h tt)
+is_read ended (instr.Getstatic index) (operand.Variable w) v h = record { index = index; instr = refl; names = let same : w ≡ v = cc in ap operand.Variable same }
+is_read ended instr.Monitorenter (operand.Monitor m) v h = absurd (subst NotRead h tt)
+is_read ended (instr.New index) (operand.Make k) v h = absurd (subst NotRead h tt)
+is_read ended (instr.Invokevirtual index) (operand.Start k) v h = absurd (subst NotRead h tt)
+is_read ended (instr.Invokevirtual index) (operand.Join k) v h = absurd (subst NotRead h tt)
+is_read ended (instr.Invokevirtual index) (operand.Alive k) v h = absurd (subst NotRead h tt)
+is_read ended (instr.New index) (operand.Target k) v h = absurd (subst NotRead h tt)
+is_read ended (instr.Invokespecial index) (operand.Wrap k) v h = absurd (subst NotRead h tt)
+is_read ended (instr.Getstatic index) operand.Out v h = absurd (subst NotRead h tt)
+is_read ended (instr.Invokestatic index) (operand.Method called) v h = absurd (subst NotRead h tt)
+is_read ended instr.Nop operand.Nothing v h = absurd (subst NotRead h tt)
+is_read ended _ _ v h = absurd (subst NotRead h tt)
 
 record IsCall (i : Instr) (o : Operand) (id : MethodId) : Type 0 where
   pub index : ℕ
   pub instr : i ≡ instr.Invokestatic index
   pub names : o ≡ operand.Method id
 
-is_call : (i : Instr) (o : Operand) (id : MethodId) → doing_of i o ≡ doing.Call id → IsCall i o id
-is_call i (operand.Constant n) id h = absurd (subst NotCall h tt)
-is_call i operand.Print id h = absurd (subst NotCall h tt)
-is_call (instr.Invokestatic index) (operand.Method called) id h = record { index = index; instr = refl; names = let same : called ≡ id = cc in ap operand.Method same }
-is_call (instr.Getstatic index) (operand.Variable w) id h = absurd (subst NotCall h tt)
-is_call instr.Monitorenter (operand.Monitor m) id h = absurd (subst NotCall h tt)
-is_call (instr.New index) (operand.Make k) id h = absurd (subst NotCall h tt)
-is_call (instr.Invokevirtual index) (operand.Start k) id h = absurd (subst NotCall h tt)
-is_call (instr.Invokevirtual index) (operand.Join k) id h = absurd (subst NotCall h tt)
-is_call (instr.Getstatic index) operand.Out id h = absurd (subst NotCall h tt)
-is_call instr.Nop operand.Nothing id h = absurd (subst NotCall h tt)
-is_call _ _ id h = absurd (subst NotCall h tt)
+is_call : (ended : ℕ → Bool) (i : Instr) (o : Operand) (id : MethodId) → doing_of ended i o ≡ doing.Call id → IsCall i o id
+is_call ended i (operand.Constant n) id h = absurd (subst NotCall h tt)
+is_call ended i operand.Print id h = absurd (subst NotCall h tt)
+is_call ended (instr.Invokestatic index) (operand.Method called) id h = record { index = index; instr = refl; names = let same : called ≡ id = cc in ap operand.Method same }
+is_call ended (instr.Getstatic index) (operand.Variable w) id h = absurd (subst NotCall h tt)
+is_call ended instr.Monitorenter (operand.Monitor m) id h = absurd (subst NotCall h tt)
+is_call ended (instr.New index) (operand.Make k) id h = absurd (subst NotCall h tt)
+is_call ended (instr.Invokevirtual index) (operand.Start k) id h = absurd (subst NotCall h tt)
+is_call ended (instr.Invokevirtual index) (operand.Join k) id h = absurd (subst NotCall h tt)
+is_call ended (instr.Invokevirtual index) (operand.Alive k) id h = absurd (subst NotCall h tt)
+is_call ended (instr.New index) (operand.Target k) id h = absurd (subst NotCall h tt)
+is_call ended (instr.Invokespecial index) (operand.Wrap k) id h = absurd (subst NotCall h tt)
+is_call ended (instr.Getstatic index) operand.Out id h = absurd (subst NotCall h tt)
+is_call ended instr.Nop operand.Nothing id h = absurd (subst NotCall h tt)
+is_call ended _ _ id h = absurd (subst NotCall h tt)
 
-is_return : (i : Instr) (o : Operand) → doing_of i o ≡ doing.Return → (i ≡ instr.Return) × (o ≡ operand.Nothing)
-is_return i (operand.Constant n) h = absurd (subst NotReturn h tt)
-is_return i operand.Print h = absurd (subst NotReturn h tt)
-is_return instr.Return operand.Nothing h = (refl, refl)
-is_return (instr.Getstatic index) (operand.Variable w) h = absurd (subst NotReturn h tt)
-is_return instr.Monitorenter (operand.Monitor m) h = absurd (subst NotReturn h tt)
-is_return (instr.New index) (operand.Make k) h = absurd (subst NotReturn h tt)
-is_return (instr.Invokevirtual index) (operand.Start k) h = absurd (subst NotReturn h tt)
-is_return (instr.Invokevirtual index) (operand.Join k) h = absurd (subst NotReturn h tt)
-is_return (instr.Getstatic index) operand.Out h = absurd (subst NotReturn h tt)
-is_return (instr.Invokestatic index) (operand.Method called) h = absurd (subst NotReturn h tt)
-is_return instr.Nop operand.Nothing h = absurd (subst NotReturn h tt)
-is_return _ _ h = absurd (subst NotReturn h tt)
+is_return : (ended : ℕ → Bool) (i : Instr) (o : Operand) → doing_of ended i o ≡ doing.Return → (i ≡ instr.Return) × (o ≡ operand.Nothing)
+is_return ended i (operand.Constant n) h = absurd (subst NotReturn h tt)
+is_return ended i operand.Print h = absurd (subst NotReturn h tt)
+is_return ended instr.Return operand.Nothing h = (refl, refl)
+is_return ended (instr.Getstatic index) (operand.Variable w) h = absurd (subst NotReturn h tt)
+is_return ended instr.Monitorenter (operand.Monitor m) h = absurd (subst NotReturn h tt)
+is_return ended (instr.New index) (operand.Make k) h = absurd (subst NotReturn h tt)
+is_return ended (instr.Invokevirtual index) (operand.Start k) h = absurd (subst NotReturn h tt)
+is_return ended (instr.Invokevirtual index) (operand.Join k) h = absurd (subst NotReturn h tt)
+is_return ended (instr.Invokevirtual index) (operand.Alive k) h = absurd (subst NotReturn h tt)
+is_return ended (instr.New index) (operand.Target k) h = absurd (subst NotReturn h tt)
+is_return ended (instr.Invokespecial index) (operand.Wrap k) h = absurd (subst NotReturn h tt)
+is_return ended (instr.Getstatic index) operand.Out h = absurd (subst NotReturn h tt)
+is_return ended (instr.Invokestatic index) (operand.Method called) h = absurd (subst NotReturn h tt)
+is_return ended instr.Nop operand.Nothing h = absurd (subst NotReturn h tt)
+is_return ended _ _ h = absurd (subst NotReturn h tt)
 
-is_return_int : (i : Instr) (o : Operand) → doing_of i o ≡ doing.ReturnInt → (i ≡ instr.Ireturn) × (o ≡ operand.Nothing)
-is_return_int i (operand.Constant n) h = absurd (subst NotReturnInt h tt)
-is_return_int i operand.Print h = absurd (subst NotReturnInt h tt)
-is_return_int instr.Ireturn operand.Nothing h = (refl, refl)
-is_return_int (instr.Getstatic index) (operand.Variable w) h = absurd (subst NotReturnInt h tt)
-is_return_int instr.Monitorenter (operand.Monitor m) h = absurd (subst NotReturnInt h tt)
-is_return_int (instr.New index) (operand.Make k) h = absurd (subst NotReturnInt h tt)
-is_return_int (instr.Invokevirtual index) (operand.Start k) h = absurd (subst NotReturnInt h tt)
-is_return_int (instr.Invokevirtual index) (operand.Join k) h = absurd (subst NotReturnInt h tt)
-is_return_int (instr.Getstatic index) operand.Out h = absurd (subst NotReturnInt h tt)
-is_return_int (instr.Invokestatic index) (operand.Method called) h = absurd (subst NotReturnInt h tt)
-is_return_int instr.Nop operand.Nothing h = absurd (subst NotReturnInt h tt)
-is_return_int _ _ h = absurd (subst NotReturnInt h tt)
+is_return_int : (ended : ℕ → Bool) (i : Instr) (o : Operand) → doing_of ended i o ≡ doing.ReturnInt → (i ≡ instr.Ireturn) × (o ≡ operand.Nothing)
+is_return_int ended i (operand.Constant n) h = absurd (subst NotReturnInt h tt)
+is_return_int ended i operand.Print h = absurd (subst NotReturnInt h tt)
+is_return_int ended instr.Ireturn operand.Nothing h = (refl, refl)
+is_return_int ended (instr.Getstatic index) (operand.Variable w) h = absurd (subst NotReturnInt h tt)
+is_return_int ended instr.Monitorenter (operand.Monitor m) h = absurd (subst NotReturnInt h tt)
+is_return_int ended (instr.New index) (operand.Make k) h = absurd (subst NotReturnInt h tt)
+is_return_int ended (instr.Invokevirtual index) (operand.Start k) h = absurd (subst NotReturnInt h tt)
+is_return_int ended (instr.Invokevirtual index) (operand.Join k) h = absurd (subst NotReturnInt h tt)
+is_return_int ended (instr.Invokevirtual index) (operand.Alive k) h = absurd (subst NotReturnInt h tt)
+is_return_int ended (instr.New index) (operand.Target k) h = absurd (subst NotReturnInt h tt)
+is_return_int ended (instr.Invokespecial index) (operand.Wrap k) h = absurd (subst NotReturnInt h tt)
+is_return_int ended (instr.Getstatic index) operand.Out h = absurd (subst NotReturnInt h tt)
+is_return_int ended (instr.Invokestatic index) (operand.Method called) h = absurd (subst NotReturnInt h tt)
+is_return_int ended instr.Nop operand.Nothing h = absurd (subst NotReturnInt h tt)
+is_return_int ended _ _ h = absurd (subst NotReturnInt h tt)
 
 -- ---- Outcomes are steps
 
 instruction_is : (m : Method) (pc : ℕ) (i j : Instr) (o q : Operand) → i ≡ j → o ≡ q → IsInstruction m pc i o → IsInstruction m pc j q
 instruction_is m pc i j o q is os at = subst (λ (x : Operand). IsInstruction m pc j x) os (subst (λ (x : Instr). IsInstruction m pc x o) is at)
 
-pub outcome_is_step : (p : Prog) (k : ℕ) (m : Method) (i : Instr) (o : Operand) (a : Activation) (callers : List Activation) (e : Effect) (t : List Activation) → IsMethod p a.method m → IsInstruction m a.pc i o →
-    Outcome p m.frame.monitor (doing_of i o) (a.pc + length_of i) a callers e t → Step p k (a ∷ callers) e t
-outcome_is_step p k m i o a callers e t is_m at (inside b h goes) =
-    subst (λ (x : List Activation). Step p k (a ∷ callers) e x) (sym goes)
-    (inside_is_step p k a callers i o (record { effect = e; after = b }) (record { method = m; is_method = is_m; instruction = at }) h)
-outcome_is_step p k m i o a callers e t is_m at (reads v n fits does is goes) =
-    let r = is_read i o v does in
+pub outcome_is_step : (p : Prog) (ended : ℕ → Bool) (m : Method) (i : Instr) (o : Operand) (a : Activation) (callers : List Activation) (e : Effect) (t : List Activation) → IsMethod p a.method m → IsInstruction m a.pc i o →
+    Outcome p m.frame.monitor (doing_of ended i o) (a.pc + length_of i) a callers e t → Step p ended (a ∷ callers) e t
+outcome_is_step p ended m i o a callers e t is_m at (inside b h goes) =
+    subst (λ (x : List Activation). Step p ended (a ∷ callers) e x) (sym goes)
+    (inside_is_step p ended a callers i o (record { effect = e; after = b }) (record { method = m; is_method = is_m; instruction = at }) h)
+outcome_is_step p ended m i o a callers e t is_m at (reads v n fits does is goes) =
+    let r = is_read ended i o v does in
     step.read r.index v n a.stack fits
     (record {
       top = a;
@@ -128,8 +140,8 @@ outcome_is_step p k m i o a callers e t is_m at (reads v n fits does is goes) =
       stack = refl;
       next = goes ∙ ap (λ (x : Instr). record a { pc = a.pc + length_of x; stack = Int n ∷ a.stack } ∷ callers) r.instr;
     }) is
-outcome_is_step p k m i o a callers e t is_m at (calls id called arguments rest does is_called count stack is goes) =
-    let r = is_call i o id does in
+outcome_is_step p ended m i o a callers e t is_m at (calls id called arguments rest does is_called count stack is goes) =
+    let r = is_call ended i o id does in
     step.calls called arguments
     (record {
       index = r.index;
@@ -147,8 +159,8 @@ outcome_is_step p k m i o a callers e t is_m at (calls id called arguments rest 
       stack = stack;
       enters = goes;
     }) is
-outcome_is_step p k m i o a callers e t is_m at (ends does alone is goes) =
-    let r = is_return i o does in
+outcome_is_step p ended m i o a callers e t is_m at (ends does alone is goes) =
+    let r = is_return ended i o does in
     step.returned (record {
       top = a;
       stands = ap (λ (x : List Activation). a ∷ x) alone;
@@ -157,8 +169,8 @@ outcome_is_step p k m i o a callers e t is_m at (ends does alone is goes) =
       instruction = instruction_is m a.pc i instr.Return o operand.Nothing r.0 r.1 at;
       ends = goes;
     }) is
-outcome_is_step p k m i o a callers e t is_m at (returns caller others calling call called does under is_calling at_call is goes) =
-    let r = is_return i o does in
+outcome_is_step p ended m i o a callers e t is_m at (returns caller others calling call called does under is_calling at_call is goes) =
+    let r = is_return ended i o does in
     step.returns_nothing a.stack m (record {
       top = a;
       caller = caller;
@@ -174,8 +186,8 @@ outcome_is_step p k m i o a callers e t is_m at (returns caller others calling c
       is_call = at_call;
       next = goes;
     }) is
-outcome_is_step p k m i o a callers e t is_m at (returns_int n below caller others calling call called does stack under is_calling at_call is goes) =
-    let r = is_return_int i o does in
+outcome_is_step p ended m i o a callers e t is_m at (returns_int n below caller others calling call called does stack under is_calling at_call is goes) =
+    let r = is_return_int ended i o does in
     step.returns_int n below m (record {
       top = a;
       caller = caller;
@@ -194,24 +206,24 @@ outcome_is_step p k m i o a callers e t is_m at (returns_int n below caller othe
 
 -- ---- Steps are outcomes
 
-pub outcome_here : (p : Prog) (m : Method) (i : Instr) (o : Operand) (a : Activation) (callers s : List Activation) (e : Effect) (t : List Activation) → s ≡ a ∷ callers →
-    IsMethod p a.method m → ((other : Method) → IsMethod p a.method other → m ≡ other) → IsByPc m.listing → IsInstruction m a.pc i o → Normal p s e t →
-    Outcome p m.frame.monitor (doing_of i o) (a.pc + length_of i) a callers e t
-outcome_here p m i o a callers s e t stands is_m only by_pc at n =
+pub outcome_here : (p : Prog) (ended : ℕ → Bool) (m : Method) (i : Instr) (o : Operand) (a : Activation) (callers s : List Activation) (e : Effect) (t : List Activation) → s ≡ a ∷ callers →
+    IsMethod p a.method m → ((other : Method) → IsMethod p a.method other → m ≡ other) → IsByPc m.listing → IsInstruction m a.pc i o → Normal p ended s e t →
+    Outcome p m.frame.monitor (doing_of ended i o) (a.pc + length_of i) a callers e t
+outcome_here p ended m i o a callers s e t stands is_m only by_pc at n =
     let stacks : a ∷ callers ≡ n.top ∷ n.callers = sym stands ∙ n.stands in
     let tops : a ≡ n.top = cc in
     let below : callers ≡ n.callers = cc in
     let place = same_place p a n.top m n.method i n.instr o n.names only by_pc tops is_m n.is_method at n.instruction in
-    subst (λ (c : List Activation). Outcome p m.frame.monitor (doing_of i o) (a.pc + length_of i) a c e t) (sym below)
-    (subst (λ (b : Activation). Outcome p m.frame.monitor (doing_of i o) (b.pc + length_of i) b n.callers e t) (sym tops)
-    (subst (λ (q : Operand). Outcome p m.frame.monitor (doing_of i q) (n.top.pc + length_of i) n.top n.callers e t) (sym place.names)
-    (subst (λ (j : Instr). Outcome p m.frame.monitor (doing_of j n.names) (n.top.pc + length_of j) n.top n.callers e t) (sym place.instr)
-    (subst (λ (w : Method). Outcome p w.frame.monitor (doing_of n.instr n.names) (n.top.pc + length_of n.instr) n.top n.callers e t) (sym place.method) n.outcome))))
+    subst (λ (c : List Activation). Outcome p m.frame.monitor (doing_of ended i o) (a.pc + length_of i) a c e t) (sym below)
+    (subst (λ (b : Activation). Outcome p m.frame.monitor (doing_of ended i o) (b.pc + length_of i) b n.callers e t) (sym tops)
+    (subst (λ (q : Operand). Outcome p m.frame.monitor (doing_of ended i q) (n.top.pc + length_of i) n.top n.callers e t) (sym place.names)
+    (subst (λ (j : Instr). Outcome p m.frame.monitor (doing_of ended j n.names) (n.top.pc + length_of j) n.top n.callers e t) (sym place.instr)
+    (subst (λ (w : Method). Outcome p w.frame.monitor (doing_of ended n.instr n.names) (n.top.pc + length_of n.instr) n.top n.callers e t) (sym place.method) n.outcome))))
 
-pub nothing_no_step : (p : Prog) (k : ℕ) (a : Activation) (callers s : List Activation) → s ≡ a ∷ callers → NothingAt p a.method a.pc → NoStep p k s
-nothing_no_step p k a callers s stands nothing e t taken = go (normal p k s e t taken)
+pub nothing_no_step : (p : Prog) (ended : ℕ → Bool) (a : Activation) (callers s : List Activation) → s ≡ a ∷ callers → NothingAt p a.method a.pc → NoStep p ended s
+nothing_no_step p ended a callers s stands nothing e t taken = go (normal p ended s e t taken)
   where
-    go : Normal p s e t → ⊥
+    go : Normal p ended s e t → ⊥
     go n =
         let stacks : a ∷ callers ≡ n.top ∷ n.callers = sym stands ∙ n.stands in
         let tops : a ≡ n.top = cc in
@@ -222,22 +234,22 @@ nothing_no_step p k a callers s stands nothing e t taken = go (normal p k s e t 
 next_is : (p : Prog) (m : Method) (i j : Instr) (o q : Operand) (a : Activation) (callers s : List Activation) → s ≡ a ∷ callers → IsMethod p a.method m → IsInstruction m a.pc i o → i ≡ j → o ≡ q → ComesNext p s j q
 next_is p m i j o q a callers s stands is_m at same names = record { top = a; callers = callers; stands = stands; method = m; is_method = is_m; instruction = instruction_is m a.pc i j o q same names at }
 
-acts_at : (p : Prog) (m : Method) (i : Instr) (o : Operand) (a : Activation) (callers s : List Activation) (read : Option ℤ) (r : Result Effect TraceEnd) (t : List Activation) → s ≡ a ∷ callers → IsMethod p a.method m →
+acts_at : (p : Prog) (ended : ℕ → Bool) (m : Method) (i : Instr) (o : Operand) (a : Activation) (callers s : List Activation) (read : Option ℤ) (r : Result Effect TraceEnd) (t : List Activation) → s ≡ a ∷ callers → IsMethod p a.method m →
     ((other : Method) → IsMethod p a.method other → m ≡ other) → IsByPc m.listing → IsInstruction m a.pc i o → a.pc < 2 ^ 32 →
-    Acts p m.frame.monitor (doing_of i o) (a.pc + length_of i) a callers read r t → Steps p s read r t
-acts_at p m i o a callers s read (Ok e) t stands is_m only by_pc at low acted = record {
-  step = λ k. subst (λ (x : List Activation). Step p k x e t) (sym stands) (outcome_is_step p k m i o a callers e t is_m at acted.outcome);
+    Acts p m.frame.monitor (doing_of ended i o) (a.pc + length_of i) a callers read r t → Steps p ended s read r t
+acts_at p ended m i o a callers s read (Ok e) t stands is_m only by_pc at low acted = record {
+  step = subst (λ (x : List Activation). Step p ended x e t) (sym stands) (outcome_is_step p ended m i o a callers e t is_m at acted.outcome);
   may_read = acted.may_read;
   none_twice = λ none. acted.none_twice (subst NoneTwice stands none);
   low = subst IsLow (sym stands) low;
 }
-acts_at p m i o a callers s read (Err end.NotLinked) t stands is_m only by_pc at low (inl none) =
-    inl (λ k e u taken. none e u (outcome_here p m i o a callers s e u stands is_m only by_pc at (normal p k s e u taken)))
-acts_at p m i o a callers s read (Err end.NotLinked) t stands is_m only by_pc at low (inr running) =
-    let r = is_call i o running.0 running.1 in
+acts_at p ended m i o a callers s read (Err end.NotLinked) t stands is_m only by_pc at low (inl none) =
+    inl (λ e u taken. none e u (outcome_here p ended m i o a callers s e u stands is_m only by_pc at (normal p ended s e u taken)))
+acts_at p ended m i o a callers s read (Err end.NotLinked) t stands is_m only by_pc at low (inr running) =
+    let r = is_call ended i o running.0 running.1 in
     inr (record { index = r.index; id = running.0; next = next_is p m i (instr.Invokestatic r.index) o (operand.Method running.0) a callers s stands is_m at r.instr r.names; running = subst (λ (x : List Activation). IsRunning x running.0) (sym stands) running.2 })
-acts_at p m i o a callers s read (Err end.ReadsShort) t stands is_m only by_pc at low short =
-    let r = is_read i o short.1.0 short.1.1 in (
+acts_at p ended m i o a callers s read (Err end.ReadsShort) t stands is_m only by_pc at low short =
+    let r = is_read ended i o short.1.0 short.1.1 in (
       short.0,
       record {
         index = r.index;
@@ -245,15 +257,15 @@ acts_at p m i o a callers s read (Err end.ReadsShort) t stands is_m only by_pc a
         next = next_is p m i (instr.Getstatic r.index) o (operand.Variable short.1.0) a callers s stands is_m at r.instr r.names;
       },
     )
-acts_at p m i o a callers s read (Err end.Memory) t stands is_m only by_pc at low h = tt
-acts_at p m i o a callers s read (Err (end.ReadsLeft n)) t stands is_m only by_pc at low h = absurd h
-acts_at p m i o a callers s read (Err end.PastJumps) t stands is_m only by_pc at low h = absurd h
-acts_at p m i o a callers s read (Err end.PastWidth) t stands is_m only by_pc at low h = absurd h
+acts_at p ended m i o a callers s read (Err end.Memory) t stands is_m only by_pc at low h = tt
+acts_at p ended m i o a callers s read (Err (end.ReadsLeft n)) t stands is_m only by_pc at low h = absurd h
+acts_at p ended m i o a callers s read (Err end.PastJumps) t stands is_m only by_pc at low h = absurd h
+acts_at p ended m i o a callers s read (Err end.PastWidth) t stands is_m only by_pc at low h = absurd h
 
-pub acts_step : (p : Prog) (a : Activation) (callers s : List Activation) (here : Here) (read : Option ℤ) (r : Result Effect TraceEnd) (t : List Activation) → s ≡ a ∷ callers → IsHere p a.method a.pc here → here.pc < 2 ^ 32 →
-    Acts p here.frame.monitor (doing_of here.instr here.names) (here.pc + length_of here.instr) a callers read r t → Steps p s read r t
-acts_step p a callers s here read r t stands is_here low acts =
-    acts_at p is_here.method here.instr here.names a callers s read r t stands is_here.the_method.is_method is_here.the_method.only is_here.inside.by_pc is_here.inside.instruction
+pub acts_step : (p : Prog) (ended : ℕ → Bool) (a : Activation) (callers s : List Activation) (here : Here) (read : Option ℤ) (r : Result Effect TraceEnd) (t : List Activation) → s ≡ a ∷ callers → IsHere p a.method a.pc here → here.pc < 2 ^ 32 →
+    Acts p here.frame.monitor (doing_of ended here.instr here.names) (here.pc + length_of here.instr) a callers read r t → Steps p ended s read r t
+acts_step p ended a callers s here read r t stands is_here low acts =
+    acts_at p ended is_here.method here.instr here.names a callers s read r t stands is_here.the_method.is_method is_here.the_method.only is_here.inside.by_pc is_here.inside.instruction
     (subst (λ (n : ℕ). n < 2 ^ 32) is_here.inside.pc_is low)
-    (subst (λ (n : ℕ). Acts p is_here.method.frame.monitor (doing_of here.instr here.names) (n + length_of here.instr) a callers read r t) is_here.inside.pc_is
-    (subst (λ (f : Frame). Acts p f.monitor (doing_of here.instr here.names) (here.pc + length_of here.instr) a callers read r t) is_here.inside.frame acts))
+    (subst (λ (n : ℕ). Acts p is_here.method.frame.monitor (doing_of ended here.instr here.names) (n + length_of here.instr) a callers read r t) is_here.inside.pc_is
+    (subst (λ (f : Frame). Acts p f.monitor (doing_of ended here.instr here.names) (here.pc + length_of here.instr) a callers read r t) is_here.inside.frame acts))

@@ -1,5 +1,5 @@
 -- The walk along the run.
-use Rattle.std.proofs.Common.{◌≡◌, ◌≢◌, ◌<◌, ◌≤◌, ◌+◌, ◌-◌, ◌++◌, ◌⊎◌, ℕ, ℤ, suc, List, [], ◌∷◌, Option, Some, None, All, length, map, drop, count_by, slice_get, refl, sym, ap, subst, ◌∙◌, arith, inl, inr, append_assoc, if◌then◌else◌, cond, Contains, IfOk, IfErr, Result, Ok, Err}
+use Rattle.std.proofs.Common.{◌≡◌, ◌≢◌, ◌<◌, ◌≤◌, ◌+◌, ◌-◌, ◌++◌, ◌⊎◌, ℕ, Bool, ℤ, suc, List, [], ◌∷◌, Option, Some, None, All, length, map, drop, count_by, slice_get, refl, sym, ap, subst, ◌∙◌, arith, inl, inr, append_assoc, if◌then◌else◌, cond, Contains, IfOk, IfErr, Result, Ok, Err}
 use Rattle.std.proofs.lemmas.List.{append-nil, length-map, length-drop, drop_all}
 use Rattle.std.proofs.lemmas.List.Elements.{filter_map-append, All-append, All-nil}
 use Rattle.std.proofs.lemmas.List.Sums.{sum_by-append}
@@ -30,9 +30,9 @@ use Rattle.thread_meaning.proofs.Runs.{leads_run, run_reads, run_prints}
 
 -- ---- One move more
 
-pub leads_on : (p : Prog) (k : ℕ) (s t u : List Activation) (moves : List Move) (e : Effect) → Leads p k s moves t → Step p k t e u → Leads p k s (moves ++ record { effect = e; state = u } ∷ []) u
-leads_on p k s t u [] e there step = (subst (λ (x : List Activation). Step p k x e u) (sym there) step, refl)
-leads_on p k s t u (m ∷ moves) e there step = (there.0, leads_on p k m.state t u moves e there.1 step)
+pub leads_on : (p : Prog) (ended : ℕ → Bool) (s t u : List Activation) (moves : List Move) (e : Effect) → Leads p ended s moves t → Step p ended t e u → Leads p ended s (moves ++ record { effect = e; state = u } ∷ []) u
+leads_on p ended s t u [] e there step = (subst (λ (x : List Activation). Step p ended x e u) (sym there) step, refl)
+leads_on p ended s t u (m ∷ moves) e there step = (there.0, leads_on p ended m.state t u moves e there.1 step)
 
 events_more : (moves : List Move) (e : Effect) (u : List Activation) → events_of (moves ++ record { effect = e; state = u } ∷ []) ≡ events_of moves ++ list_of e.event
 events_more moves e u = filter_map-append (λ (m : Move). m.effect.event) moves (record { effect = e; state = u } ∷ [])
@@ -70,11 +70,11 @@ next_used reads used read (Some n) fits there (inr same) = next_some reads used 
 
 -- ---- Where the walk stands
 
-pub record UnderWay (p : Prog) (k : ℕ) (reads : List ℤ) (bounds : Bounds) (w : Walk) : Type 0 where
+pub record UnderWay (p : Prog) (k : ℕ) (ended : ℕ → Bool) (reads : List ℤ) (bounds : Bounds) (w : Walk) : Type 0 where
   pub start : List Activation
   pub entry : IsEntry p k start
   pub moves : List Move
-  pub leads : Leads p k start moves w.frames
+  pub leads : Leads p ended start moves w.frames
   pub events : w.events ≡ event.First ∷ events_of moves
   pub printed : w.printed ≡ filter_map printed_of (events_of moves)
   pub used : w.used ≤ length reads
@@ -91,8 +91,8 @@ entry_known : (p : Prog) (k : ℕ) (s : List Activation) → IsEntry p k s → A
 entry_known p k s e = subst (AreKnown p) (sym e.start)
     (λ id running. subst (λ (x : MethodId). Contains (map (λ (m : Method). m.id) p.methods) x) (contains_one e.method.id id running) (known_method p e.id e.method e.is_method))
 
-pub starts : (p : Prog) (k : ℕ) (reads : List ℤ) (bounds : Bounds) (w : Walk) → Starts p k bounds w → UnderWay p k reads bounds w
-starts p k reads bounds w s = record {
+pub starts : (p : Prog) (k : ℕ) (ended : ℕ → Bool) (reads : List ℤ) (bounds : Bounds) (w : Walk) → Starts p k bounds w → UnderWay p k ended reads bounds w
+starts p k ended reads bounds w s = record {
   start = w.frames;
   entry = s.entry;
   moves = [];
@@ -115,15 +115,15 @@ one_more_jump moves e u jumps jumps' all before used =
     let one : count_by (λ (m : Move). m.effect.backward) (record { effect = e; state = u } ∷ []) ≡ cond e.backward 1 0 = omega arith in
     omega (arith, sum, one, before, used)
 
-pub goes_on : (p : Prog) (k : ℕ) (reads : List ℤ) (bounds : Bounds) (w v : Walk) → UnderWay p k reads bounds w → Advances p reads bounds w v → UnderWay p k reads bounds v
-goes_on p k reads bounds w v u a =
+pub goes_on : (p : Prog) (k : ℕ) (ended : ℕ → Bool) (reads : List ℤ) (bounds : Bounds) (w v : Walk) → UnderWay p k ended reads bounds w → Advances p ended reads bounds w v → UnderWay p k ended reads bounds v
+goes_on p k ended reads bounds w v u a =
     let next = next_used reads w.used (read_in a.effect) (slice_get reads w.used) u.used refl a.stepped.may_read in
     let moves = u.moves ++ record { effect = a.effect; state = v.frames } ∷ [] in
     record {
       start = u.start;
       entry = u.entry;
       moves = moves;
-      leads = leads_on p k u.start w.frames v.frames u.moves a.effect u.leads (a.stepped.step k);
+      leads = leads_on p ended u.start w.frames v.frames u.moves a.effect u.leads (a.stepped.step);
       events = a.events ∙ ap (λ (xs : List Event). xs ++ list_of a.effect.event) u.events ∙ ap (λ (xs : List Event). event.First ∷ xs) (sym (events_more u.moves a.effect v.frames));
       printed = a.printed ∙ ap (λ (xs : List ℤ). xs ++ list_of (printed_in a.effect)) u.printed ∙ sym (filtered_more printed_of u.moves a.effect v.frames);
       used = subst (λ (n : ℕ). n ≤ length reads) (sym a.used) next.within;
@@ -134,7 +134,7 @@ goes_on p k reads bounds w v u a =
       narrow = All-append (λ (m : Move). All (Fits bounds.width) m.effect.ints) u.moves (record { effect = a.effect; state = v.frames } ∷ []) u.narrow
           (all_cons (λ (m : Move). All (Fits bounds.width) m.effect.ints) (record { effect = a.effect; state = v.frames }) [] a.narrow (All-nil (λ (m : Move). All (Fits bounds.width) m.effect.ints)));
       none_twice = a.stepped.none_twice u.none_twice;
-      known = known_step p k w.frames v.frames a.effect (a.stepped.step k) u.known;
+      known = known_step p ended w.frames v.frames a.effect (a.stepped.step) u.known;
     }
 
 -- ---- It comes to an end
@@ -146,26 +146,26 @@ low_below (a ∷ s) h = h
 few : (p : Prog) (s : List Activation) → NoneTwice s → AreKnown p s → length s ≤ length p.methods
 few p s none known = let le = few_frames s (map (λ (m : Method). m.id) p.methods) none known in omega (arith, le, length-map p.methods (λ (m : Method). m.id))
 
-pub comes_nearer : (p : Prog) (k : ℕ) (reads : List ℤ) (bounds : Bounds) (w v : Walk) → UnderWay p k reads bounds w → Advances p reads bounds w v →
+pub comes_nearer : (p : Prog) (k : ℕ) (ended : ℕ → Bool) (reads : List ℤ) (bounds : Bounds) (w v : Walk) → UnderWay p k ended reads bounds w → Advances p ended reads bounds w v →
     left_to_do 4294967297 (length p.methods) v.jumps v.frames < left_to_do 4294967297 (length p.methods) w.jumps w.frames
-comes_nearer p k reads bounds w v u a =
-    smaller p k 4294967297 (length p.methods) w.jumps v.jumps w.frames v.frames a.effect (omega arith) (low_below w.frames a.stepped.low) (few p w.frames u.none_twice u.known)
-    (few p v.frames (a.stepped.none_twice u.none_twice) (known_step p k w.frames v.frames a.effect (a.stepped.step k) u.known)) a.jumps (a.stepped.step k)
+comes_nearer p k ended reads bounds w v u a =
+    smaller p ended 4294967297 (length p.methods) w.jumps v.jumps w.frames v.frames a.effect (omega arith) (low_below w.frames a.stepped.low) (few p w.frames u.none_twice u.known)
+    (few p v.frames (a.stepped.none_twice u.none_twice) (known_step p ended w.frames v.frames a.effect (a.stepped.step) u.known)) a.jumps (a.stepped.step)
 
 -- ---- What is answered
 
-in_bounds : (p : Prog) (k : ℕ) (reads : List ℤ) (bounds : Bounds) (w : Walk) → (u : UnderWay p k reads bounds w) → InBounds u.moves bounds.jumps bounds.width
-in_bounds p k reads bounds w u = record { few_jumps = omega (arith, u.jumps); narrow = u.narrow }
+in_bounds : (p : Prog) (k : ℕ) (ended : ℕ → Bool) (reads : List ℤ) (bounds : Bounds) (w : Walk) → (u : UnderWay p k ended reads bounds w) → InBounds u.moves bounds.jumps bounds.width
+in_bounds p k ended reads bounds w u = record { few_jumps = omega (arith, u.jumps); narrow = u.narrow }
 
-arrives : (p : Prog) (k : ℕ) (reads : List ℤ) (bounds : Bounds) (w : Walk) → (u : UnderWay p k reads bounds w) → Arrives p k reads bounds u.moves w.frames (drop w.used reads)
-arrives p k reads bounds w u = record { start = u.start; entry = u.entry; leads = u.leads; reads_are = u.reads_are; in_bounds = in_bounds p k reads bounds w u }
+arrives : (p : Prog) (k : ℕ) (ended : ℕ → Bool) (reads : List ℤ) (bounds : Bounds) (w : Walk) → (u : UnderWay p k ended reads bounds w) → Arrives p k ended reads bounds u.moves w.frames (drop w.used reads)
+arrives p k ended reads bounds w u = record { start = u.start; entry = u.entry; leads = u.leads; reads_are = u.reads_are; in_bounds = in_bounds p k ended reads bounds w u }
 
-with_left : (p : Prog) (k : ℕ) (reads : List ℤ) (bounds : Bounds) (moves : List Move) (s : List Activation) (xs ys : List ℤ) → xs ≡ ys → Arrives p k reads bounds moves s xs → Arrives p k reads bounds moves s ys
-with_left p k reads bounds moves s xs ys same a = subst (Arrives p k reads bounds moves s) same a
+with_left : (p : Prog) (k : ℕ) (ended : ℕ → Bool) (reads : List ℤ) (bounds : Bounds) (moves : List Move) (s : List Activation) (xs ys : List ℤ) → xs ≡ ys → Arrives p k ended reads bounds moves s xs → Arrives p k ended reads bounds moves s ys
+with_left p k ended reads bounds moves s xs ys same a = subst (Arrives p k ended reads bounds moves s) same a
 
-splits_at : (p : Prog) (reads : List ℤ) (used : ℕ) (s t : List Activation) (e : Effect) → used ≤ length reads → Stepped p s (slice_get reads used) e t →
+splits_at : (p : Prog) (ended : ℕ → Bool) (reads : List ℤ) (used : ℕ) (s t : List Activation) (e : Effect) → used ≤ length reads → Stepped p ended s (slice_get reads used) e t →
     drop used reads ≡ cons_option (read_in e) (drop (used + length (list_of (read_in e))) reads)
-splits_at p reads used s t e fits st = (next_used reads used (read_in e) (slice_get reads used) fits refl st.may_read).splits ∙ listed (read_in e) _
+splits_at p ended reads used s t e fits st = (next_used reads used (read_in e) (slice_get reads used) fits refl st.may_read).splits ∙ listed (read_in e) _
   where
     listed : (o : Option ℤ) (xs : List ℤ) → list_of o ++ xs ≡ cons_option o xs
     listed None xs = refl
@@ -177,82 +177,82 @@ all_used reads used fits none = elim (slice_get_cases reads used).1 [
   | inr past ↦ drop_all used reads past.0
 ]
 
-pub stops : (p : Prog) (k : ℕ) (reads : List ℤ) (bounds : Bounds) (w : Walk) (e : TraceEnd) → UnderWay p k reads bounds w → w.frames ≢ [] → Stops p reads bounds w e → IsRefused p k reads bounds e
-stops p k reads bounds w end.ReadsShort u some h =
-    record { moves = u.moves; state = w.frames; arrives = with_left p k reads bounds u.moves w.frames (drop w.used reads) [] (all_used reads w.used u.used h.0) (arrives p k reads bounds w u); next = h.1 }
-stops p k reads bounds w (end.ReadsLeft count) u some h = absurd h
-stops p k reads bounds w end.PastJumps u some h = record {
+pub stops : (p : Prog) (k : ℕ) (ended : ℕ → Bool) (reads : List ℤ) (bounds : Bounds) (w : Walk) (e : TraceEnd) → UnderWay p k ended reads bounds w → w.frames ≢ [] → Stops p ended reads bounds w e → IsRefused p k ended reads bounds e
+stops p k ended reads bounds w end.ReadsShort u some h =
+    record { moves = u.moves; state = w.frames; arrives = with_left p k ended reads bounds u.moves w.frames (drop w.used reads) [] (all_used reads w.used u.used h.0) (arrives p k ended reads bounds w u); next = h.1 }
+stops p k ended reads bounds w (end.ReadsLeft count) u some h = absurd h
+stops p k ended reads bounds w end.PastJumps u some h = record {
   moves = u.moves;
   state = w.frames;
   left = drop (w.used + length (list_of (read_in h.effect))) reads;
   effect = h.effect;
   next = h.next;
-  arrives = with_left p k reads bounds u.moves w.frames (drop w.used reads) _ (splits_at p reads w.used w.frames h.next h.effect u.used h.stepped) (arrives p k reads bounds w u);
-  step = h.stepped.step k;
+  arrives = with_left p k ended reads bounds u.moves w.frames (drop w.used reads) _ (splits_at p ended reads w.used w.frames h.next h.effect u.used h.stepped) (arrives p k ended reads bounds w u);
+  step = h.stepped.step;
   backward = h.backward;
   used = omega (arith, u.jumps, h.used);
 }
-stops p k reads bounds w end.PastWidth u some h = record {
+stops p k ended reads bounds w end.PastWidth u some h = record {
   moves = u.moves;
   state = w.frames;
   left = drop (w.used + length (list_of (read_in h.effect))) reads;
   effect = h.effect;
   next = h.next;
-  arrives = with_left p k reads bounds u.moves w.frames (drop w.used reads) _ (splits_at p reads w.used w.frames h.next h.effect u.used h.stepped) (arrives p k reads bounds w u);
-  step = h.stepped.step k;
+  arrives = with_left p k ended reads bounds u.moves w.frames (drop w.used reads) _ (splits_at p ended reads w.used w.frames h.next h.effect u.used h.stepped) (arrives p k ended reads bounds w u);
+  step = h.stepped.step;
   wide = h.wide;
 }
-stops p k reads bounds w end.NotLinked u some (inl none) = no_step u.moves w.frames (drop w.used reads) (arrives p k reads bounds w u) some (none k)
-stops p k reads bounds w end.NotLinked u some (inr itself) = within u.moves w.frames (drop w.used reads) (arrives p k reads bounds w u) itself
-stops p k reads bounds w end.Memory u some h = tt
+stops p k ended reads bounds w end.NotLinked u some (inl none) = no_step u.moves w.frames (drop w.used reads) (arrives p k ended reads bounds w u) some none
+stops p k ended reads bounds w end.NotLinked u some (inr itself) = within u.moves w.frames (drop w.used reads) (arrives p k ended reads bounds w u) itself
+stops p k ended reads bounds w end.Memory u some h = tt
 
 nothing_left : (reads : List ℤ) (used : ℕ) → length reads ≤ used → drop used reads ≡ []
 nothing_left reads used le = drop_all used reads le
 
-pub ends_run : (p : Prog) (k : ℕ) (reads : List ℤ) (bounds : Bounds) (w : Walk) (t : Trace) → UnderWay p k reads bounds w → w.frames ≡ [] → Finishes (length reads) w t → HasRun p k reads bounds t.events t.printed
-ends_run p k reads bounds w t u ended f = record {
+pub ends_run : (p : Prog) (k : ℕ) (ended : ℕ → Bool) (reads : List ℤ) (bounds : Bounds) (w : Walk) (t : Trace) → UnderWay p k ended reads bounds w → w.frames ≡ [] → Finishes (length reads) w t → HasRun p k ended reads bounds t.events t.printed
+ends_run p k ended reads bounds w t u over f = record {
   moves = u.moves;
   run = record {
     start = u.start;
     entry = u.entry;
-    steps = leads_run p k u.start u.moves (subst (Leads p k u.start u.moves) ended u.leads);
+    steps = leads_run p ended u.start u.moves (subst (Leads p ended u.start u.moves) over u.leads);
     events_are = events_are;
     reads_are = u.reads_are ∙ ap (λ (xs : List ℤ). reads_of u.moves ++ xs) (nothing_left reads w.used f.all) ∙ append-nil (reads_of u.moves) ∙ sym (run_reads u.moves) ∙ ap (filter_map read_of) (sym events_are);
     printed_are = f.printed ∙ u.printed ∙ sym (run_prints u.moves) ∙ ap (filter_map printed_of) (sym events_are);
   };
-  in_bounds = in_bounds p k reads bounds w u;
+  in_bounds = in_bounds p k ended reads bounds w u;
 }
   where
     events_are : t.events ≡ event.First ∷ events_of u.moves ++ event.Last ∷ []
     events_are = f.events ∙ ap (λ (xs : List Event). xs ++ event.Last ∷ []) u.events
 
-pub ends_left : (p : Prog) (k : ℕ) (reads : List ℤ) (bounds : Bounds) (w : Walk) (e : TraceEnd) → UnderWay p k reads bounds w → w.frames ≡ [] → Ends (length reads) w e → IsRefused p k reads bounds e
-ends_left p k reads bounds w (end.ReadsLeft count) u ended h = record {
+pub ends_left : (p : Prog) (k : ℕ) (ended : ℕ → Bool) (reads : List ℤ) (bounds : Bounds) (w : Walk) (e : TraceEnd) → UnderWay p k ended reads bounds w → w.frames ≡ [] → Ends (length reads) w e → IsRefused p k ended reads bounds e
+ends_left p k ended reads bounds w (end.ReadsLeft count) u over h = record {
   moves = u.moves;
   left = drop w.used reads;
-  arrives = subst (λ (s : List Activation). Arrives p k reads bounds u.moves s (drop w.used reads)) ended (arrives p k reads bounds w u);
+  arrives = subst (λ (s : List Activation). Arrives p k ended reads bounds u.moves s (drop w.used reads)) over (arrives p k ended reads bounds w u);
   count_is = omega (arith, length-drop w.used reads, h.0, h.1);
   some = omega (arith, h.0, h.1);
 }
-ends_left p k reads bounds w end.Memory u ended h = tt
-ends_left p k reads bounds w end.ReadsShort u ended h = absurd h
-ends_left p k reads bounds w end.PastJumps u ended h = absurd h
-ends_left p k reads bounds w end.PastWidth u ended h = absurd h
-ends_left p k reads bounds w end.NotLinked u ended h = absurd h
+ends_left p k ended reads bounds w end.Memory u over h = tt
+ends_left p k ended reads bounds w end.ReadsShort u over h = absurd h
+ends_left p k ended reads bounds w end.PastJumps u over h = absurd h
+ends_left p k ended reads bounds w end.PastWidth u over h = absurd h
+ends_left p k ended reads bounds w end.NotLinked u over h = absurd h
 
-pub finished : (p : Prog) (k : ℕ) (reads : List ℤ) (bounds : Bounds) (w : Walk) (r : Result Trace TraceEnd) → UnderWay p k reads bounds w → w.frames ≡ [] → IfOk r (Finishes (length reads) w) →
-    IfOk r (λ t. HasRun p k reads bounds t.events t.printed)
-finished p k reads bounds w (Ok t) u ended h = ends_run p k reads bounds w t u ended h
-finished p k reads bounds w (Err e) u ended h = tt
+pub finished : (p : Prog) (k : ℕ) (ended : ℕ → Bool) (reads : List ℤ) (bounds : Bounds) (w : Walk) (r : Result Trace TraceEnd) → UnderWay p k ended reads bounds w → w.frames ≡ [] → IfOk r (Finishes (length reads) w) →
+    IfOk r (λ t. HasRun p k ended reads bounds t.events t.printed)
+finished p k ended reads bounds w (Ok t) u over h = ends_run p k ended reads bounds w t u over h
+finished p k ended reads bounds w (Err e) u over h = tt
 
-pub unfinished : (p : Prog) (k : ℕ) (reads : List ℤ) (bounds : Bounds) (w : Walk) (r : Result Trace TraceEnd) → UnderWay p k reads bounds w → w.frames ≡ [] → IfErr r (Ends (length reads) w) → IfErr r (IsRefused p k reads bounds)
-unfinished p k reads bounds w (Ok t) u ended h = tt
-unfinished p k reads bounds w (Err e) u ended h = ends_left p k reads bounds w e u ended h
+pub unfinished : (p : Prog) (k : ℕ) (ended : ℕ → Bool) (reads : List ℤ) (bounds : Bounds) (w : Walk) (r : Result Trace TraceEnd) → UnderWay p k ended reads bounds w → w.frames ≡ [] → IfErr r (Ends (length reads) w) → IfErr r (IsRefused p k ended reads bounds)
+unfinished p k ended reads bounds w (Ok t) u over h = tt
+unfinished p k ended reads bounds w (Err e) u over h = ends_left p k ended reads bounds w e u over h
 
-pub not_started : (p : Prog) (k : ℕ) (reads : List ℤ) (bounds : Bounds) (e : TraceEnd) → CannotStart p k e → IsRefused p k reads bounds e
-not_started p k reads bounds end.NotLinked h = no_entry h
-not_started p k reads bounds end.Memory h = tt
-not_started p k reads bounds end.ReadsShort h = absurd h
-not_started p k reads bounds (end.ReadsLeft n) h = absurd h
-not_started p k reads bounds end.PastJumps h = absurd h
-not_started p k reads bounds end.PastWidth h = absurd h
+pub not_started : (p : Prog) (k : ℕ) (ended : ℕ → Bool) (reads : List ℤ) (bounds : Bounds) (e : TraceEnd) → CannotStart p k e → IsRefused p k ended reads bounds e
+not_started p k ended reads bounds end.NotLinked h = no_entry h
+not_started p k ended reads bounds end.Memory h = tt
+not_started p k ended reads bounds end.ReadsShort h = absurd h
+not_started p k ended reads bounds (end.ReadsLeft n) h = absurd h
+not_started p k ended reads bounds end.PastJumps h = absurd h
+not_started p k ended reads bounds end.PastWidth h = absurd h

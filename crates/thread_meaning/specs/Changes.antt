@@ -1,8 +1,8 @@
 -- What a step changes inside the frame in which it runs, where it has what it needs (JVMS 6.5).
-use Rattle.std.specs.Prelude.{◌≡◌, ℕ, ℤ, pos, negsuc, Bool, true, false, List, [], ◌∷◌, Option, Some, None, Result, Ok, Err, length, nat_eq, nat_le, nat_lt, slice_get, slice_set, if◌then◌else◌, ◌+ℤ◌, ◌<◌, ◌++◌, map, reverse}
+use Rattle.std.specs.Prelude.{◌≡◌, ◌^◌, ◌&&◌, neg_ℤ, int_le, int_lt, ℕ, ℤ, pos, negsuc, Bool, true, false, List, [], ◌∷◌, Option, Some, None, Result, Ok, Err, length, nat_eq, nat_le, nat_lt, slice_get, slice_set, if◌then◌else◌, ◌+ℤ◌, ◌<◌, ◌++◌, map, reverse}
 use Rattle.std.specs.Option.{option_and_then}
 use Rattle.java_int.specs.JavaInt.{add_of}
-use Rattle.program.specs.Step.{JavaValue, Activation, Effect, silent, pushes, shows, moves_values, jump_effect, Int, Out, Monitor, Object}
+use Rattle.program.specs.Step.{JavaValue, Activation, Effect, silent, pushes, shows, moves_values, jump_effect, Int, Out, Monitor, Object, Target}
 use Rattle.program.specs.declared.event.Event.TheVariants as event
 use Rattle.thread_meaning.specs.Doings.{unary_op, binary_op, compares}
 use Rattle.thread_meaning.specs.Values.{int_of, is_reference}
@@ -46,6 +46,10 @@ monitor_on _ = None
 abbrev pub object_on : List JavaValue → Option (OnTop ℕ)
 object_on (Object k ∷ rest) = Some (record { top = k; rest = rest })
 object_on _ = None
+
+abbrev pub target_on : List JavaValue → Option (OnTop ℕ)
+target_on (Target k ∷ rest) = Some (record { top = k; rest = rest })
+target_on _ = None
 
 -- what is below the object of System.out
 abbrev pub below_out : List JavaValue → Option (List JavaValue)
@@ -91,8 +95,12 @@ jumps a behind (test.OfTwo c) distance =
 
 -- ---- The other steps
 
+-- whether this is an int
+abbrev pub in_int_range : ℤ → Bool
+in_int_range n = int_le (neg_ℤ (pos (2 ^ 31))) n && int_lt n (pos (2 ^ 31))
+
 abbrev pub pushes_int : Activation → ℕ → ℤ → Option Change
-pushes_int a behind n = Some (goes_on a behind (Int n ∷ a.stack) (pushes n))
+pushes_int a behind n = if in_int_range n then Some (goes_on a behind (Int n ∷ a.stack) (pushes n)) else None
 
 abbrev pub puts : Activation → ℕ → JavaValue → Option Change
 puts a behind value = Some (goes_on a behind (value ∷ a.stack) silent)
@@ -102,6 +110,26 @@ takes_monitor a behind m effect = option_and_then (λ t. if nat_eq t.top m then 
 
 abbrev pub takes_object : Activation → ℕ → ℕ → Effect → Option Change
 takes_object a behind k effect = option_and_then (λ t. if nat_eq t.top k then Some (goes_on a behind t.rest effect) else None) (object_on a.stack)
+
+abbrev pub takes_target : Activation → ℕ → ℕ → Option Change
+takes_target a behind k = option_and_then (λ t. if nat_eq t.top k then Some (goes_on a behind t.rest silent) else None) (target_on a.stack)
+
+-- the target, and below it the object, of one thread
+abbrev pub wraps : Activation → ℕ → ℕ → Option Change
+wraps a behind k = option_and_then (λ t. if nat_eq t.top k then takes_object (record a { stack = t.rest }) behind k silent else None) (target_on a.stack)
+
+-- the effect of asking a thread whether it is alive, and the answer
+abbrev pub answer : Bool → ℤ
+answer true = pos 0
+answer false = pos 1
+
+abbrev pub asking : ℕ → Bool → Effect
+asking k true = shows (event.Detect k) (pos 0 ∷ [])
+asking k false = pushes (pos 1)
+
+abbrev pub asks : Activation → ℕ → ℕ → Bool → Option Change
+asks a behind k ended =
+    option_and_then (λ t. if nat_eq t.top k then Some (goes_on a behind (Int (answer ended) ∷ t.rest) (asking k ended)) else None) (object_on a.stack)
 
 abbrev pub writes : Activation → ℕ → ℕ → Option Change
 writes a behind v = option_and_then (λ t. Some (goes_on a behind t.rest (shows (event.Write v t.top) (t.top ∷ [])))) (int_on a.stack)
@@ -150,6 +178,9 @@ change_of (doing.Unlock m) behind a = takes_monitor a behind m (shows (event.Unl
 change_of (doing.Construct k) behind a = takes_object a behind k silent
 change_of (doing.Start k) behind a = takes_object a behind k (shows (event.Start k) [])
 change_of (doing.Join k) behind a = takes_object a behind k (shows (event.Detect k) [])
+change_of (doing.ConstructTarget k) behind a = takes_target a behind k
+change_of (doing.Wrap k) behind a = wraps a behind k
+change_of (doing.Ask k ended) behind a = asks a behind k ended
 change_of (doing.Write v) behind a = writes a behind v
 change_of doing.Print behind a = prints a behind
 change_of doing.Nothing behind a = Some (goes_on a behind a.stack silent)

@@ -148,6 +148,15 @@ making_doing (instr.New index) k = doing.Put (java.Object k)
 making_doing (instr.Invokespecial index) k = doing.Construct k
 making_doing _ k = doing.Stuck
 
+abbrev pub target_doing : Instr → ℕ → Doing
+target_doing (instr.New index) k = doing.Put (java.Target k)
+target_doing (instr.Invokespecial index) k = doing.ConstructTarget k
+target_doing _ k = doing.Stuck
+
+abbrev pub wrapping_doing : Instr → ℕ → Doing
+wrapping_doing (instr.Invokespecial index) k = doing.Wrap k
+wrapping_doing _ k = doing.Stuck
+
 -- what a call of an object's method does, by what the method does
 abbrev pub calling_doing : Instr → Doing → Doing
 calling_doing (instr.Invokevirtual index) d = d
@@ -161,15 +170,18 @@ abbrev pub static_doing : Instr → MethodId → Doing
 static_doing (instr.Invokestatic index) id = doing.Call id
 static_doing _ id = doing.Stuck
 
--- what an instruction does that names this
-abbrev pub doing_of : Instr → Operand → Doing
-doing_of i (operand.Constant n) = doing.Push n
-doing_of i (operand.Variable v) = access_doing i v
-doing_of i (operand.Monitor m) = monitor_doing i m
-doing_of i (operand.Make k) = making_doing i k
-doing_of i (operand.Start k) = calling_doing i (doing.Start k)
-doing_of i (operand.Join k) = calling_doing i (doing.Join k)
-doing_of i (operand.Method id) = static_doing i id
-doing_of i operand.Out = out_doing i
-doing_of i operand.Print = doing.Print
-doing_of i operand.Nothing = own_doing i
+-- what an instruction does that names this, where isAlive finds these threads ended
+abbrev pub doing_of : (ℕ → Bool) → Instr → Operand → Doing
+doing_of ended i (operand.Constant n) = doing.Push n
+doing_of ended i (operand.Variable v) = access_doing i v
+doing_of ended i (operand.Monitor m) = monitor_doing i m
+doing_of ended i (operand.Make k) = making_doing i k
+doing_of ended i (operand.Target k) = target_doing i k
+doing_of ended i (operand.Wrap k) = wrapping_doing i k
+doing_of ended i (operand.Start k) = calling_doing i (doing.Start k)
+doing_of ended i (operand.Join k) = calling_doing i (doing.Join k)
+doing_of ended i (operand.Alive k) = calling_doing i (doing.Ask k (ended k))
+doing_of ended i (operand.Method id) = static_doing i id
+doing_of ended i operand.Out = out_doing i
+doing_of ended i operand.Print = doing.Print
+doing_of ended i operand.Nothing = own_doing i

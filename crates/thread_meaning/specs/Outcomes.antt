@@ -1,5 +1,5 @@
 -- The steps of a thread, by what its next instruction does.
-use Rattle.std.specs.Prelude.{◌≡◌, ◌<◌, ◌^◌, ◌+◌, ◌++◌, ◌⊎◌, ℕ, ℤ, false, List, [], ◌∷◌, Option, Some, None, Result, Ok, Err, Contains, length, map, reverse}
+use Rattle.std.specs.Prelude.{◌≡◌, ◌<◌, ◌^◌, ◌+◌, ◌++◌, ◌⊎◌, ℕ, ℤ, Bool, false, List, [], ◌∷◌, Option, Some, None, Result, Ok, Err, Contains, length, map, reverse}
 use Rattle.std.specs.Option.{option_map}
 use Rattle.opcodes.specs.Instructions.{length_of}
 use Rattle.opcodes.specs.Listing.{IsByPc}
@@ -115,8 +115,8 @@ NothingAt p id pc = (method : Method) → IsMethod p id method → NothingIn met
 -- ---- Steps from a state
 
 -- no step leads on from there
-abbrev pub NoStep : Prog → ℕ → List Activation → Type 0
-NoStep p k s = (e : Effect) (t : List Activation) → Step p k s e t → ⊥
+abbrev pub NoStep : Prog → (ℕ → Bool) → List Activation → Type 0
+NoStep p ended s = (e : Effect) (t : List Activation) → Step p ended s e t → ⊥
 
 -- the next instruction calls a method that is being run
 pub record CallsItself (p : Prog) (s : List Activation) : Type 0 where
@@ -136,19 +136,19 @@ abbrev pub IsLow : List Activation → Type 0
 IsLow [] = Unit {0}
 IsLow (a ∷ s) = a.pc < 2 ^ 32
 
-pub record Stepped (p : Prog) (s : List Activation) (read : Option ℤ) (e : Effect) (t : List Activation) : Type 0 where
-  pub step : (k : ℕ) → Step p k s e t
+pub record Stepped (p : Prog) (ended : ℕ → Bool) (s : List Activation) (read : Option ℤ) (e : Effect) (t : List Activation) : Type 0 where
+  pub step : Step p ended s e t
   pub may_read : MayRead read e
   pub none_twice : NoneTwice s → NoneTwice t
   pub low : IsLow s
 
 -- a call that does the one step from a state, or refuses where there is none; want of memory alone is free
-abbrev pub Steps : Prog → List Activation → Option ℤ → Result Effect TraceEnd → List Activation → Type 0
-Steps p s read (Ok e) t = Stepped p s read e t
-Steps p s read (Err end.NotLinked) t = ((k : ℕ) → NoStep p k s) ⊎ CallsItself p s
-Steps p s read (Err end.ReadsShort) t = (read ≡ None) × NextReads p s
-Steps p s read (Err end.Memory) t = Unit {0}
-Steps p s read (Err _) t = ⊥
+abbrev pub Steps : Prog → (ℕ → Bool) → List Activation → Option ℤ → Result Effect TraceEnd → List Activation → Type 0
+Steps p ended s read (Ok e) t = Stepped p ended s read e t
+Steps p ended s read (Err end.NotLinked) t = NoStep p ended s ⊎ CallsItself p s
+Steps p ended s read (Err end.ReadsShort) t = (read ≡ None) × NextReads p s
+Steps p ended s read (Err end.Memory) t = Unit {0}
+Steps p ended s read (Err _) t = ⊥
 
 -- ---- Calls and returns
 

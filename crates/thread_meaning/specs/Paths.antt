@@ -1,5 +1,5 @@
 -- Lists of steps, and what they read.
-use Rattle.std.specs.Prelude.{◌≡◌, ◌≢◌, ℕ, ℤ, List, [], ◌∷◌, AllPairs, Contains, Option}
+use Rattle.std.specs.Prelude.{◌≡◌, ◌≢◌, ℕ, ℤ, Bool, List, [], ◌∷◌, AllPairs, Contains, Option}
 use Rattle.std.specs.List.{filter_map}
 use Rattle.std.specs.Option.{option_and_then}
 use Rattle.opcodes.specs.Listing.{IsByPc}
@@ -14,9 +14,9 @@ pub record IsOrdered (p : Prog) : Type 0 where
   pub by_pc : (m : Method) → Contains p.methods m → IsByPc m.listing
 
 -- these moves lead from one state to another
-abbrev pub Leads : Prog → ℕ → List Activation → List Move → List Activation → Type 0
-Leads p k s [] t = s ≡ t
-Leads p k s (m ∷ moves) t = Step p k s m.effect m.state × Leads p k m.state moves t
+abbrev pub Leads : Prog → (ℕ → Bool) → List Activation → List Move → List Activation → Type 0
+Leads p ended s [] t = s ≡ t
+Leads p ended s (m ∷ moves) t = Step p ended s m.effect m.state × Leads p ended m.state moves t
 
 -- the value that a step reads, if it reads one
 abbrev pub read_in : Effect → Option ℤ

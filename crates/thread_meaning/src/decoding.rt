@@ -1,7 +1,8 @@
 //! What each instruction does, by what it names (JVMS 6.5).
 
 ghost use Rattle.std.specs.Prelude.{◌≡◌};
-ghost use Rattle.thread_meaning.specs.Doings.{stack_doing, local_doing, operation_doing, jump_doing, own_doing, access_doing, monitor_doing, making_doing, calling_doing, doing_of};
+ghost use Rattle.thread_meaning.specs.Doings.{stack_doing, local_doing, operation_doing, jump_doing, own_doing, access_doing, monitor_doing, making_doing, target_doing, wrapping_doing, calling_doing, doing_of};
+ghost use Rattle.thread_meaning.specs.Tracing.{has_ended};
 
 use crate::doing::{Binary, Comparison, Doing, Test, Unary};
 use crate::value::Value;
@@ -165,6 +166,34 @@ fn making_doing(instr: &Instr, thread: u32) -> Doing
     }
 }
 
+/// What the making of a thread's target, or its constructor's call, does.
+fn target_doing(instr: &Instr, thread: u32) -> Doing
+    ensures { result ≡ target_doing instr.now thread }
+{
+    match instr {
+        Instr::New { index: _ } => Doing::Put(Value::target(thread)),
+        Instr::Invokespecial { index: _ } => Doing::ConstructTarget(thread),
+        _ => Doing::Stuck,
+    }
+}
+
+/// What the call of the constructor does that makes a thread around its target.
+fn wrapping_doing(instr: &Instr, thread: u32) -> Doing
+    ensures { result ≡ wrapping_doing instr.now thread }
+{
+    match instr {
+        Instr::Invokespecial { index: _ } => Doing::Wrap(thread),
+        _ => Doing::Stuck,
+    }
+}
+
+/// Whether a thread is in a set of bits: bit k stands for thread k.
+fn has_ended(ended: u8, thread: u32) -> bool
+    ensures { result ≡ has_ended ended thread }
+{
+    thread < 32 && (u32::from(ended) >> thread) & 1 == 1
+}
+
 /// What a call of an object's method does, if the instruction is one, by what the method does.
 fn calling_doing(instr: &Instr, doing: Doing) -> Doing
     ensures { result ≡ calling_doing instr.now doing }
@@ -175,17 +204,29 @@ fn calling_doing(instr: &Instr, doing: Doing) -> Doing
     }
 }
 
-/// What the instruction does that names this.
-pub fn what_it_does(instr: &Instr, operand: &Operand) -> Doing
-    ensures { result ≡ doing_of instr.now operand.now }
+/// What the instruction does that names this, where `isAlive` finds these threads ended.
+pub fn what_it_does(ended: u8, instr: &Instr, operand: &Operand) -> Doing
+    ensures { result ≡ doing_of (has_ended ended) instr.now operand.now }
 {
     match operand {
         Operand::Constant(value) => Doing::Push(*value),
         Operand::Variable(variable) => access_doing(instr, *variable),
         Operand::Monitor(monitor) => monitor_doing(instr, *monitor),
         Operand::Make(thread) => making_doing(instr, *thread),
+        Operand::Target(thread) => target_doing(instr, *thread),
+        Operand::Wrap(thread) => wrapping_doing(instr, *thread),
         Operand::Start(thread) => calling_doing(instr, Doing::Start(*thread)),
         Operand::Join(thread) => calling_doing(instr, Doing::Join(*thread)),
+        Operand::Alive(thread) => {
+            let ended = has_ended(ended, *thread);
+            calling_doing(
+                instr,
+                Doing::Ask {
+                    thread: *thread,
+                    ended,
+                },
+            )
+        }
         Operand::Method(called) => match instr {
             Instr::Invokestatic { index: _ } => Doing::Call(*called),
             _ => Doing::Stuck,

@@ -66,6 +66,12 @@ pub enum Doing {
     Start(u32),
     /// Takes the object of this thread, and detects its end.
     Join(u32),
+    /// Takes the target of this thread, whose constructor is called.
+    ConstructTarget(u32),
+    /// Takes the target of this thread, and its object, whose constructor is called.
+    Wrap(u32),
+    /// Takes the object of this thread, and pushes 0 where it has ended, which detects its end, or 1.
+    Ask { thread: u32, ended: bool },
     /// Reads a variable and pushes its value.
     Read(u32),
     /// Takes an int and writes it to a variable.

@@ -30,7 +30,7 @@ fn target(pc: u32, distance: i16) -> Option<u64>
 
 impl Frame {
     ghost use Rattle.program.specs.Step.{shows};
-    ghost use Rattle.thread_meaning.specs.Changes.{Makes, activation_of, goes_on, local_of, int_in, stores, branches, jumps, takes_monitor, takes_object, writes, prints, discards, doubles, exchanges, loads_int, loads_reference, stores_int, stores_reference, increments, applies_unary, applies_binary, change_of};
+    ghost use Rattle.thread_meaning.specs.Changes.{Makes, activation_of, goes_on, local_of, int_in, stores, branches, jumps, takes_monitor, takes_object, takes_target, wraps, asks, answer, asking, writes, prints, discards, doubles, exchanges, loads_int, loads_reference, stores_int, stores_reference, increments, applies_unary, applies_binary, change_of};
 
     /// The next instruction comes.
     fn go_on(&mut self, behind: u64, effect: Effect) -> Result<Effect, TraceEnd>
@@ -122,6 +122,41 @@ impl Frame {
         let value = self.stack.pop_int()?;
         self.stack.pop_out()?;
         self.go_on(behind, Effect::of_event(Some(Event::Print { value })))
+    }
+
+    /// Takes the target of this thread.
+    fn take_target(&mut self, behind: u64, thread: u32) -> Result<Effect, TraceEnd>
+        ensures { Makes (takes_target (activation_of self.old) behind thread) result (activation_of self.new) }
+    {
+        if self.stack.pop_target()? != thread {
+            return Err(TraceEnd::NotLinked);
+        }
+        self.go_on(behind, Effect::silent())
+    }
+
+    /// Takes the target of this thread, and below it its object.
+    fn wrap(&mut self, behind: u64, thread: u32) -> Result<Effect, TraceEnd>
+        ensures { Makes (wraps (activation_of self.old) behind thread) result (activation_of self.new) }
+    {
+        if self.stack.pop_target()? != thread {
+            return Err(TraceEnd::NotLinked);
+        }
+        self.take_object(behind, thread, Effect::silent())
+    }
+
+    /// Takes the object of this thread, and answers whether it is alive.
+    fn ask(&mut self, behind: u64, thread: u32, ended: bool) -> Result<Effect, TraceEnd>
+        ensures { Makes (asks (activation_of self.old) behind thread ended) result (activation_of self.new) }
+    {
+        if self.stack.pop_object()? != thread {
+            return Err(TraceEnd::NotLinked);
+        }
+        if ended {
+            let effect = Effect::of_int(Some(Event::Detect { thread }), 0);
+            self.go_on_with(behind, Value::int(0), effect)
+        } else {
+            self.go_on_with(behind, Value::int(1), Effect::of_int(None, 1))
+        }
     }
 
     /// Takes a value.
@@ -305,6 +340,9 @@ impl Frame {
             Doing::Construct(thread) => self.take_object(behind, thread, Effect::silent()),
             Doing::Start(thread) => self.start(behind, thread),
             Doing::Join(thread) => self.join(behind, thread),
+            Doing::ConstructTarget(thread) => self.take_target(behind, thread),
+            Doing::Wrap(thread) => self.wrap(behind, thread),
+            Doing::Ask { thread, ended } => self.ask(behind, thread, ended),
             Doing::Write(variable) => self.write(behind, variable),
             Doing::Print => self.print(behind),
             Doing::Nothing => self.go_on(behind, Effect::silent()),

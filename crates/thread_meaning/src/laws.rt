@@ -7,7 +7,7 @@ pub fn one_step()
     ensures { OneStep }
 {}
 
-/// A run is determined by its reads.
+/// A run is determined by its reads and by the threads that it finds ended.
 pub fn one_run()
     ensures { OneRun }
 {}

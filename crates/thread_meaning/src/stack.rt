@@ -1,7 +1,7 @@
 //! The operand stack of a frame.
 
 ghost use Rattle.std.specs.Prelude.{◌≡◌, [], ◌∷◌, Some, None, IfOk, IfErr, OnOk};
-ghost use Rattle.thread_meaning.specs.Changes.{value_on, int_on, monitor_on, object_on, below_out, AreArguments, CannotTake};
+ghost use Rattle.thread_meaning.specs.Changes.{value_on, int_on, monitor_on, object_on, target_on, below_out, AreArguments, CannotTake};
 
 use crate::end::TraceEnd;
 use crate::value::Value;
@@ -71,6 +71,14 @@ impl Stack {
         ensures err { IfErr result (λ e. (e ≡ TraceEnd.NotLinked) × (object_on self.old ≡ None)) }
     {
         self.pop()?.as_object().ok_or(TraceEnd::NotLinked)
+    }
+
+    /// Takes the target of a thread on top.
+    pub fn pop_target(&mut self) -> Result<u32, TraceEnd>
+        ensures ok { IfOk result (λ k. target_on self.old ≡ Some (record { top = k; rest = self.new })) }
+        ensures err { IfErr result (λ e. (e ≡ TraceEnd.NotLinked) × (target_on self.old ≡ None)) }
+    {
+        self.pop()?.as_target().ok_or(TraceEnd::NotLinked)
     }
 
     /// Takes this many values as arguments of a method, the first of them being the lowest.

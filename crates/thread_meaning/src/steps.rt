@@ -5,6 +5,7 @@ ghost use Rattle.std.specs.Option.{option_map};
 ghost use Rattle.opcodes.specs.Instructions.{length_of};
 ghost use Rattle.thread_meaning.specs.Changes.{activation_of};
 ghost use Rattle.thread_meaning.specs.Doings.{doing_of};
+ghost use Rattle.thread_meaning.specs.Tracing.{has_ended};
 ghost use Rattle.thread_meaning.specs.Outcomes.{Acts, Steps, StaysInside, GoesOnBehind, CannotGoOn, IsEntered, CannotEnter};
 
 use crate::code::{Here, look, method_of};
@@ -175,13 +176,14 @@ impl Frames {
         program: &Program,
         top: Frame,
         here: Here,
+        ended: u8,
         read: Option<i32>,
     ) -> Result<Effect, TraceEnd>
         requires { top.pc ≡ here.pc }
-        ensures { Acts program.now here.frame.monitor (doing_of here.instr here.names) (here.pc + length_of here.instr) (activation_of top) self.old read result self.new }
+        ensures { Acts program.now here.frame.monitor (doing_of (has_ended ended) here.instr here.names) (here.pc + length_of here.instr) (activation_of top) self.old read result self.new }
     {
         let behind = u64::from(here.pc) + u64::from(here.instr.length());
-        match what_it_does(&here.instr, &here.names) {
+        match what_it_does(ended, &here.instr, &here.names) {
             Doing::Read(variable) => self.read(top, behind, variable, read),
             Doing::Call(id) => self.call(alloc, program, top, id),
             Doing::Return => self.return_nothing(program, top, here.frame.monitor),
@@ -190,20 +192,21 @@ impl Frames {
         }
     }
 
-    /// The next step, which gets this value if it is a read.
+    /// The next step, where `isAlive` finds these threads ended, and which gets this value if it is a read.
     pub fn step(
         &mut self,
         alloc: Global,
         program: &Program,
+        ended: u8,
         read: Option<i32>,
     ) -> Result<Effect, TraceEnd>
         requires { self.old ≢ [] }
-        ensures { Steps program.now self.old read result self.new }
+        ensures { Steps program.now (has_ended ended) self.old read result self.new }
     {
         let Some(top) = self.pop() else {
             unreachable!();
         };
         let here = look(program, top.method, top.pc)?;
-        self.act(alloc, program, top, here, read)
+        self.act(alloc, program, top, here, ended, read)
     }
 }

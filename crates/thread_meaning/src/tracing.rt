@@ -2,7 +2,7 @@
 
 ghost use Rattle.std.specs.Prelude.{◌<◌, length, IfOk, IfErr};
 ghost use Rattle.line_text.specs.Bounds.{IsBounds};
-ghost use Rattle.thread_meaning.specs.Tracing.{HasRun, IsRefused, FindsRun};
+ghost use Rattle.thread_meaning.specs.Tracing.{HasRun, IsRefused, FindsRun, has_ended};
 ghost use Rattle.thread_meaning.specs.Paths.{IsOrdered};
 
 use crate::end::TraceEnd;
@@ -17,21 +17,23 @@ fn follow(
     program: &Program,
     thread: u32,
     reads: &[i32],
+    ended: u8,
     bounds: &Bounds,
 ) -> Result<Trace, TraceEnd>
     requires thread { thread < length program.now.threads }
     requires bounds { IsBounds bounds.now }
-    ensures ok { IfOk result (λ t. HasRun program.now thread reads.now bounds.now t.events t.printed) }
-    ensures err { IfErr result (IsRefused program.now thread reads.now bounds.now) }
+    ensures ok { IfOk result (λ t. HasRun program.now thread (has_ended ended) reads.now bounds.now t.events t.printed) }
+    ensures err { IfErr result (IsRefused program.now thread (has_ended ended) reads.now bounds.now) }
 {
     let mut walk = begin(alloc, program, thread, bounds)?;
     'steps: while !walk.frames.is_empty() {
-        walk.advance(alloc, program, reads, bounds)?;
+        walk.advance(alloc, program, reads, ended, bounds)?;
     }
     walk.finish(reads.len())
 }
 
-/// The trace of a thread, for the values of its reads, within bounds.
+/// The trace of a thread, for the values of its reads and the threads that its `isAlive` calls find ended (bit k of `ended`
+/// stands for thread k), within bounds.
 ///
 /// # Errors
 /// `ReadsShort` where the next step is a read and all values are used, `ReadsLeft` where the run ended with values left,
@@ -42,13 +44,14 @@ pub fn trace(
     program: &Program,
     thread: u32,
     reads: &[i32],
+    ended: u8,
     bounds: &Bounds,
 ) -> Result<Trace, TraceEnd>
     requires thread { thread < length program.now.threads }
     requires bounds { IsBounds bounds.now }
-    ensures ok { IfOk result (λ t. HasRun program.now thread reads.now bounds.now t.events t.printed) }
-    ensures err { IfErr result (IsRefused program.now thread reads.now bounds.now) }
-    ensures exactly { IsOrdered program.now → FindsRun program.now thread reads.now bounds.now result }
+    ensures ok { IfOk result (λ t. HasRun program.now thread (has_ended ended) reads.now bounds.now t.events t.printed) }
+    ensures err { IfErr result (IsRefused program.now thread (has_ended ended) reads.now bounds.now) }
+    ensures exactly { IsOrdered program.now → FindsRun program.now thread (has_ended ended) reads.now bounds.now result }
 {
-    follow(alloc, program, thread, reads, bounds)
+    follow(alloc, program, thread, reads, ended, bounds)
 }

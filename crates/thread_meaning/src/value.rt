@@ -1,7 +1,7 @@
 //! What a local variable or a place of the stack holds.
 
 ghost use Rattle.std.specs.Prelude.{◌≡◌, ◌↔◌, IsTrue};
-ghost use Rattle.thread_meaning.specs.Values.{int_of, monitor_of, object_of, is_reference};
+ghost use Rattle.thread_meaning.specs.Values.{int_of, monitor_of, object_of, target_of, is_reference};
 
 use std::marker::Model;
 
@@ -14,6 +14,7 @@ enum Shape {
     This,
     Monitor(u32),
     Object(u32),
+    Target(u32),
 }
 
 /// A value of a thread's run: an int, or one of the few references that programs of the profile have.
@@ -34,7 +35,7 @@ impl Model for Value {
 }
 
 impl Value {
-    ghost use Rattle.program.specs.Step.{JavaValue, Int, Out, Args, This, Monitor, Object};
+    ghost use Rattle.program.specs.Step.{JavaValue, Int, Out, Args, This, Monitor, Object, Target};
 
     /// An int.
     pub fn int(value: i32) -> Value
@@ -84,6 +85,15 @@ impl Value {
         }
     }
 
+    /// The target of a thread.
+    pub fn target(thread: u32) -> Value
+        ensures { result ≡ Target thread }
+    {
+        Value {
+            shape: Shape::Target(thread),
+        }
+    }
+
     /// The int, where it is one.
     pub fn as_int(&self) -> Option<i32>
         ensures { result ≡ int_of self.now }
@@ -110,6 +120,16 @@ impl Value {
     {
         match self.shape {
             Shape::Object(thread) => Some(thread),
+            _ => None,
+        }
+    }
+
+    /// The thread, where it is the target of one.
+    pub fn as_target(&self) -> Option<u32>
+        ensures { result ≡ target_of self.now }
+    {
+        match self.shape {
+            Shape::Target(thread) => Some(thread),
             _ => None,
         }
     }

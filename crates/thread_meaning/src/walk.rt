@@ -4,7 +4,7 @@ ghost use Rattle.std.specs.Prelude.{◌≡◌, ◌≢◌, ◌<◌, ◌≤◌, �
 ghost use Rattle.line_text.specs.Bounds.{IsBounds};
 ghost use Rattle.program.specs.Step.{entered_with, parameters_of};
 ghost use Rattle.thread_meaning.specs.Changes.{activation_of};
-ghost use Rattle.thread_meaning.specs.Tracing.{Starts, CannotStart, Noted, Advances, Stops, Finishes, Ends};
+ghost use Rattle.thread_meaning.specs.Tracing.{Starts, CannotStart, Noted, Advances, Stops, Finishes, Ends, has_ended};
 
 use crate::code::method_of;
 use crate::effect::Effect;
@@ -131,16 +131,17 @@ impl Walk {
         alloc: Global,
         program: &Program,
         reads: &[i32],
+        ended: u8,
         bounds: &Bounds,
     ) -> Result<(), TraceEnd>
         requires under_way { self.old.frames ≢ [] }
         requires used { self.old.used ≤ length reads.now }
         requires bounds { IsBounds bounds.now }
-        ensures ok { OnOk result (Advances program.now reads.now bounds.now self.old self.new) }
-        ensures err { IfErr result (Stops program.now reads.now bounds.now self.old) }
+        ensures ok { OnOk result (Advances program.now (has_ended ended) reads.now bounds.now self.old self.new) }
+        ensures err { IfErr result (Stops program.now (has_ended ended) reads.now bounds.now self.old) }
     {
         let read = next_read(reads, self.used);
-        let effect = self.frames.step(alloc, program, read)?;
+        let effect = self.frames.step(alloc, program, ended, read)?;
         if !effect.fits(bounds.width) {
             return Err(TraceEnd::PastWidth);
         }

@@ -11,6 +11,7 @@ use Rattle.typing.specs.Describing.{Describes, DescribesAt, IsBelow, FaultIn, Fi
 use Rattle.typing.specs.Faults.{rank_of}
 use Rattle.typing.specs.Levels.{kept_at, EndsAt, EndsBefore, DoesAt, IsFirstAt, IsUnlooked, IsBegun, IsEntryKind, misfit, depth}
 use Rattle.typing.specs.Paths.{Path, PastEntry, EntryFails, HasFault, enters, IsRefusal}
+use Rattle.typing.specs.States as state
 use Rattle.typing.specs.States.{FrameState, entry_state}
 use Rattle.typing.specs.Summaries.{Summary, summary_of, SummarizesEntry}
 use Rattle.typing.specs.Typing.{IsListed}
@@ -22,6 +23,7 @@ use Rattle.typing.specs.declared.stage.Stage.{Stage}
 use Rattle.typing.specs.declared.refusal.TypeKind.{TypeKind}
 use Rattle.typing.specs.declared.refusal.TypeKind.TheVariants as kind
 use Rattle.typing.specs.declared.untyped.UntypedMethod.{UntypedMethod}
+use Rattle.typing.proofs.Image.{stage_fits, one_attained}
 use Rattle.typing.proofs.Faulty.{IsFirstFault, first_is, least_kind}
 use Rattle.typing.proofs.Steps.{place_once, fault_cases, fault_out, does_in, quiet_place, one_deed, same_pos}
 
@@ -67,7 +69,7 @@ entry_described m V a among only e =
       stack = λ _. sym e.stack;
       held = λ _ q. sym (e.held q);
       local = λ q. let P : Option JoinedType → Type 0 = λ o. FitsLocal o ((entry_state m).local q) in subst P (sym (e.local q)) (known_fits ((entry_state m).local q));
-      stage = λ k. let P : Option Stage → Type 0 = λ o. FitsStage o ((entry_state m).thread k) in subst P (sym (e.stage k)) refl;
+      stage = λ k. let P : Stage → Type 0 = λ o. FitsStage o ((entry_state m).thread k) in subst P (sym (e.stage k)) (stage_fits state.Unmade);
     } in
     record {
       state = entry_state m;
@@ -76,7 +78,7 @@ entry_described m V a among only e =
       stack = λ t. absurd (let wrong : ⊥ = cc (t, e.stacks_agree) in wrong);
       held = λ t. absurd (let wrong : ⊥ = cc (t, e.held_agrees) in wrong);
       local = λ q. subst (AttainsLocal V q) (sym (e.local q)) (known_attained V q (entry_state m) among ((entry_state m).local q) refl);
-      stage = λ k. subst (AttainsStage V k) (sym (e.stage k)) tt;
+      stage = λ k. subst (AttainsStage V k) (sym (e.stage k)) (one_attained V k (entry_state m) among);
     }
 
 module _ (m : UntypedMethod) (states : List (Option Joined)) (by_pc : IsByPc m.listing) (closed : IsListed m.listing (pos 0)) (begun : IsBegun m states) where

@@ -18,5 +18,5 @@ locals_behind_same c f g h q = ap (λ k. joined_locals_behind c k q) (everywhere
 pub held_behind_same : (c : HeldChange) (f g : ℕ → ℕ) → ((q : ℕ) → f q ≡ g q) → (q : ℕ) → held_behind c f q ≡ held_behind c g q
 held_behind_same c f g h q = ap (λ k. held_behind c k q) (everywhere f g h)
 
-pub stages_behind_same : (c : ThreadChange) (f g : ℕ → Option Stage) → ((q : ℕ) → f q ≡ g q) → (q : ℕ) → stages_behind c f q ≡ stages_behind c g q
+pub stages_behind_same : (c : ThreadChange) (f g : ℕ → Stage) → ((q : ℕ) → f q ≡ g q) → (q : ℕ) → stages_behind c f q ≡ stages_behind c g q
 stages_behind_same c f g h q = ap (λ k. stages_behind c k q) (everywhere f g h)

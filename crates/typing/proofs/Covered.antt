@@ -1,15 +1,16 @@
 -- Where a summary describes some states and more, it fits what another summary of fewer of them fits.
 use Rattle.std.proofs.Common.{◌≡◌, ◌≢◌, ℕ, Bool, true, false, Option, Some, None, ◌⊎◌, inl, inr, refl, sym, ap, subst, ◌∙◌}
+use Rattle.std.proofs.lemmas.Option.{same_Some}
 use Rattle.program.specs.declared.value_type.ValueType.{ValueType}
-use Rattle.program.specs.declared.value_type.ValueType.TheVariants.{Fresh, Thread}
 use Rattle.typing.specs.Describing.{FitsLocal, FitsStage, IsBelow, Clash, first, second, two, AttainsLocal, AttainsStage, Describes}
-use Rattle.typing.specs.Joining.{thread_of}
+use Rattle.typing.specs.Objects.{fresh_of, made_of, object_of}
+use Rattle.typing.specs.declared.object.Object.{Object}
+use Rattle.typing.proofs.Objects.{object_fresh, object_made, fresh_not_made, fresh_once}
 use Rattle.typing.specs.States.{FrameState, ThreadState}
 use Rattle.typing.specs.Summaries.{Summary}
 use Rattle.typing.specs.declared.joined_type.JoinedType.{JoinedType}
 use Rattle.typing.specs.declared.joined_type.JoinedType.TheVariants.{Known, Made}
 use Rattle.typing.specs.declared.stage.Stage.{Stage}
-use Rattle.typing.specs.declared.stage.Stage.TheVariants as stage
 use Rattle.typing.proofs.Union.{Wider}
 
 -- two that fit one known thing don't clash
@@ -24,15 +25,15 @@ no_clash (Made k) v w f (inr g) (second e) = cc
 no_clash (Made k) v w (inl f) (inl g) (two a b of_v of_w ne apart) = let same : a ≡ b = cc in ne same
 no_clash (Made k) v w (inr f) (inr g) (two a b of_v of_w ne apart) = let same : a ≡ b = cc in ne same
 no_clash (Made k) v w (inl f) (inr g) (two a b of_v of_w ne apart) =
-    let is_a : a ≡ Fresh k = cc in let is_b : b ≡ Thread k = cc in apart k (ap thread_of is_a) (ap thread_of is_b)
+    let is_a : a ≡ fresh_of k = cc in let is_b : b ≡ made_of k = cc in apart k (ap object_of is_a ∙ object_fresh k) (ap object_of is_b ∙ object_made k)
 no_clash (Made k) v w (inr f) (inl g) (two a b of_v of_w ne apart) =
-    let is_a : a ≡ Thread k = cc in let is_b : b ≡ Fresh k = cc in apart k (ap thread_of is_a) (ap thread_of is_b)
+    let is_a : a ≡ made_of k = cc in let is_b : b ≡ fresh_of k = cc in apart k (ap object_of is_a ∙ object_made k) (ap object_of is_b ∙ object_fresh k)
 
--- what fits both of a thread's types is that thread's
-both_fit : (y : JoinedType) (j : ℕ) (w : Option ValueType) → FitsLocal (Some y) (Some (Fresh j)) → FitsLocal (Some y) (Some (Thread j)) → FitsLocal (Some (Made j)) w → FitsLocal (Some y) w
-both_fit (Known t) j w f g h = cc
-both_fit (Made k) j w (inr f) g h = cc
-both_fit (Made k) j w (inl f) g h = let same : j ≡ k = cc in let P : ℕ → Type 0 = λ n. FitsLocal (Some (Made n)) w in subst P same h
+-- what fits both of an object's types is that object's
+both_fit : (y : JoinedType) (j : Object) (w : Option ValueType) → FitsLocal (Some y) (Some (fresh_of j)) → FitsLocal (Some y) (Some (made_of j)) → FitsLocal (Some (Made j)) w → FitsLocal (Some y) w
+both_fit (Known t) j w f g h = absurd (fresh_not_made j j (same_Some _ _ (f ∙ sym g)))
+both_fit (Made k) j w (inr f) g h = absurd (fresh_not_made j k (same_Some _ _ f))
+both_fit (Made k) j w (inl f) g h = let P : Object → Type 0 = λ n. FitsLocal (Some (Made n)) w in subst P (fresh_once j k (same_Some _ _ f)) h
 
 local_covered : (U : FrameState → Type 0) (slot : ℕ) (x y : Option JoinedType) (w : Option ValueType) → AttainsLocal U slot x →
     (u : FrameState) → U u → FitsLocal x (u.local slot) → ((s : FrameState) → U s → FitsLocal y (s.local slot)) → FitsLocal x w → FitsLocal y w
@@ -42,31 +43,12 @@ local_covered U slot (Some (Known t)) (Some y) w h u among fx fy fw = subst (Fit
 local_covered U slot (Some (Made j)) (Some y) w h u among fx fy fw =
     both_fit y j w (subst (FitsLocal (Some y)) h.0.has (fy h.0.s h.0.among)) (subst (FitsLocal (Some y)) h.1.has (fy h.1.s h.1.among)) fw
 
--- where one state is known, states that fit it are equal
-stage_once : (y : Option Stage) (v w : ThreadState) → y ≢ Some stage.Mixed → FitsStage y v → FitsStage y w → v ≡ w
-stage_once None v w ne f g = f ∙ sym g
-stage_once (Some stage.Fresh) v w ne f g = f ∙ sym g
-stage_once (Some stage.Ready) v w ne f g = f ∙ sym g
-stage_once (Some stage.Started) v w ne f g = f ∙ sym g
-stage_once (Some stage.Mixed) v w ne f g = absurd (ne refl)
-
-is_mixed : (y : Option Stage) → (y ≡ Some stage.Mixed) ⊎ (y ≢ Some stage.Mixed)
-is_mixed None = inr (λ e. cc)
-is_mixed (Some stage.Fresh) = inr (λ e. cc)
-is_mixed (Some stage.Ready) = inr (λ e. cc)
-is_mixed (Some stage.Started) = inr (λ e. cc)
-is_mixed (Some stage.Mixed) = inl refl
-
-stage_covered : (U : FrameState → Type 0) (k : ℕ) (x y : Option Stage) (w : ThreadState) → AttainsStage U k x →
-    (u : FrameState) → U u → FitsStage x (u.thread k) → ((s : FrameState) → U s → FitsStage y (s.thread k)) → FitsStage x w → FitsStage y w
-stage_covered U k x y w h u among fx fy fw =
-    let P : Option Stage → Type 0 = λ o. FitsStage o w in
-    let known : y ≢ Some stage.Mixed → FitsStage y w = λ ne. elim (is_mixed x) [
-      | inl mixed ↦ (let two_states = subst (AttainsStage U k) mixed h in
-          absurd (two_states.differ (stage_once y _ _ ne (fy two_states.s two_states.s_among) (fy two_states.t two_states.t_among))))
-      | inr one ↦ subst (FitsStage y) (stage_once x _ _ one fx fw) (fy u among)
-    ] in
-    elim (is_mixed y) [ inl mixed ↦ subst P (sym mixed) tt | inr ne ↦ known ne ]
+stage_covered : (U : FrameState → Type 0) (k : ℕ) (x y : Stage) (w : ThreadState) → AttainsStage U k x → ((s : FrameState) → U s → FitsStage y (s.thread k)) → FitsStage x w → FitsStage y w
+stage_covered U k x y w h fy fw = record {
+  unready = λ other. let there = h.unready (fw.unready other) in (fy there.s there.among).unready there.has;
+  unstarted = λ other. let there = h.unstarted (fw.unstarted other) in (fy there.s there.among).unstarted there.has;
+  unawaited = λ other apart. let there = h.unawaited (fw.unawaited other apart) in (fy there.s there.among).unawaited there.has.0 there.has.1;
+}
 
 stack_covered : (U V : FrameState → Type 0) (a b : Summary) (w : FrameState) → Describes U a → Wider U V → Describes V b → IsBelow a w → b.stacks_differ ≡ false →
     (x : Bool) → a.stacks_differ ≡ x → w.stack ≡ b.stack
@@ -91,6 +73,6 @@ covered U V a b w du wider dv h = record {
   held = λ agree m. held_covered U V a b w du wider dv h agree m a.held_differs refl;
   local = λ slot. local_covered U slot (a.local slot) (b.local slot) (w.local slot) (du.local slot) du.state du.among ((du.below du.state du.among).local slot)
       (λ s in_u. (dv.below s (wider s in_u)).local slot) (h.local slot);
-  stage = λ k. stage_covered U k (a.stage k) (b.stage k) (w.thread k) (du.stage k) du.state du.among ((du.below du.state du.among).stage k)
+  stage = λ k. stage_covered U k (a.stage k) (b.stage k) (w.thread k) (du.stage k)
       (λ s in_u. (dv.below s (wider s in_u)).stage k) (h.stage k);
 }

@@ -3,11 +3,12 @@ use Rattle.std.proofs.Common.{◌≡◌, ◌≢◌, ◌≤◌, ℕ, Bool, true, 
 use Rattle.std.specs.Option.{option_and_then}
 use Rattle.program.specs.declared.method.Frame.{Frame}
 use Rattle.program.specs.declared.value_type.ValueType.{ValueType}
-use Rattle.program.specs.declared.value_type.ValueType.TheVariants.{Fresh, Thread}
 use Rattle.typing.specs.Changes.{Meeting, Misfits, NoLock, Changes, meeting, meets, loaded_slot, used_slot}
-use Rattle.typing.specs.Describing.{FitsLocal, FitsStage, IsBelow, Clash, first, second, two, AttainsLocal, AttainsStage, DifferInThread, Describes, FaultIn, fails, disagree}
+use Rattle.typing.specs.Describing.{FitsLocal, FitsStage, IsBelow, Clash, first, second, two, AttainsLocal, AttainsStage, Describes, FaultIn, fails, disagree}
 use Rattle.typing.specs.Faults.{PastStack, PastLocals, MeetsUnheld, ReturnsHolding, MissesThread, MeetsUnready, LoadsTwo, rank_of}
 use Rattle.typing.specs.Joining.{known}
+use Rattle.typing.specs.Objects.{fresh_of, made_of}
+use Rattle.typing.proofs.Objects.{fresh_not_made}
 use Rattle.typing.specs.States.{FrameState, ThreadState}
 use Rattle.typing.specs.States as state
 use Rattle.typing.specs.Summaries.{Summary, summary_meets, MissesStage, MeetsMixed, Shows, IsFirstShown}
@@ -20,7 +21,6 @@ use Rattle.typing.specs.declared.joined_type.JoinedType.TheVariants.{Known, Made
 use Rattle.typing.specs.declared.refusal.TypeKind.{TypeKind}
 use Rattle.typing.specs.declared.refusal.TypeKind.TheVariants as kind
 use Rattle.typing.specs.declared.stage.Stage.{Stage}
-use Rattle.typing.specs.declared.stage.Stage.TheVariants as stage
 use Rattle.typing.proofs.Behind.{everywhere}
 
 -- ---- Meetings
@@ -42,8 +42,12 @@ load_nothing r deed.Enter slot stack e = cc
 load_nothing r deed.Leave slot stack e = cc
 load_nothing r (deed.Make k) slot stack e = cc
 load_nothing r deed.Construct slot stack e = cc
+load_nothing r (deed.MakeTarget k) slot stack e = cc
+load_nothing r deed.ConstructTarget slot stack e = cc
+load_nothing r deed.Wrap slot stack e = cc
 load_nothing r deed.Start slot stack e = cc
 load_nothing r deed.Join slot stack e = cc
+load_nothing r deed.Ask slot stack e = cc
 load_nothing r deed.Return slot stack e = cc
 load_nothing r deed.ReturnInt slot stack e = cc
 load_nothing r deed.Misplaced slot stack e = cc
@@ -94,15 +98,12 @@ clash_faulty V f d slot loads s t sv tv (second none) = fails t tv (state_misfit
 clash_faulty V f d slot loads s t sv tv (two a b of_s of_t ne apart) =
     let P : Option ℕ → Type 0 = λ o. LoadsTwo o s t in disagree s t sv tv (inr (subst P (sym loads) (a, b, of_s, of_t, ne)))
 
-fresh_thread : (k : ℕ) → Fresh k ≢ Thread k
-fresh_thread k e = cc
-
 loads_faulty : (V : FrameState → Type 0) (f : Frame) (d : Deed) (slot : ℕ) → loaded_slot d ≡ Some slot → (x : Option JoinedType) → known x ≡ None → AttainsLocal V slot x → FaultIn V f d kind.TypeMisfit
 loads_faulty V f d slot loads None none h = clash_faulty V f d slot loads h.s h.t h.s_among h.t_among h.clash
 loads_faulty V f d slot loads (Some (Known t)) none h = cc
 loads_faulty V f d slot loads (Some (Made k)) none h =
     let P : Option ℕ → Type 0 = λ o. LoadsTwo o h.0.s h.1.s in
-    disagree h.0.s h.1.s h.0.among h.1.among (inr (subst P (sym loads) (Fresh k, Thread k, h.0.has, h.1.has, fresh_thread k)))
+    disagree h.0.s h.1.s h.0.among h.1.among (inr (subst P (sym loads) (fresh_of k, made_of k, h.0.has, h.1.has, fresh_not_made k k)))
 
 misfit_faulty : (V : FrameState → Type 0) (f : Frame) (d : Deed) (a : Summary) → Describes V a → a.stacks_differ ≡ false → summary_meets f.result d a ≡ Misfits → FaultIn V f d kind.TypeMisfit
 misfit_faulty V f d a v agree misfits =
@@ -154,52 +155,9 @@ misses_shown : (c : ThreadChange) (a : Summary) (s : FrameState) → IsBelow a s
 misses_shown thread.Stays a s h wrong = wrong
 misses_shown (thread.Makes k) a s h wrong = wrong
 misses_shown (thread.Readies k) a s h wrong = wrong
-misses_shown (thread.Starts k) a s h wrong = λ e. let P : Option Stage → Type 0 = λ o. FitsStage o (s.thread k) in wrong (subst P e (h.stage k))
-misses_shown (thread.Joins k) a s h wrong = λ e. let P : Option Stage → Type 0 = λ o. FitsStage o (s.thread k) in wrong (subst P e (h.stage k))
-
-is_state : (v w : ThreadState) → (v ≡ w) ⊎ (v ≢ w)
-is_state state.Unmade state.Unmade = inl refl
-is_state state.Unmade state.Fresh = inr (λ e. cc)
-is_state state.Unmade state.Ready = inr (λ e. cc)
-is_state state.Unmade state.Started = inr (λ e. cc)
-is_state state.Fresh state.Unmade = inr (λ e. cc)
-is_state state.Fresh state.Fresh = inl refl
-is_state state.Fresh state.Ready = inr (λ e. cc)
-is_state state.Fresh state.Started = inr (λ e. cc)
-is_state state.Ready state.Unmade = inr (λ e. cc)
-is_state state.Ready state.Fresh = inr (λ e. cc)
-is_state state.Ready state.Ready = inl refl
-is_state state.Ready state.Started = inr (λ e. cc)
-is_state state.Started state.Unmade = inr (λ e. cc)
-is_state state.Started state.Fresh = inr (λ e. cc)
-is_state state.Started state.Ready = inr (λ e. cc)
-is_state state.Started state.Started = inl refl
-
--- a state that is another one than this
-pub record HasOther (V : FrameState → Type 0) (k : ℕ) (v : ThreadState) : Type 0 where
-  pub s : FrameState
-  pub among : V s
-  pub other : s.thread k ≢ v
-
-of_two : (V : FrameState → Type 0) (k : ℕ) (v : ThreadState) → DifferInThread V k → HasOther V k v
-of_two V k v h = elim (is_state (h.s.thread k) v) [
-  | inl same ↦ record { s = h.t; among = h.t_among; other = λ e. h.differ (same ∙ sym e) }
-  | inr other ↦ record { s = h.s; among = h.s_among; other = other }
-]
-
-not_ready : (V : FrameState → Type 0) (k : ℕ) (a : Option Stage) → AttainsStage V k a → a ≢ Some stage.Ready → (s : FrameState) → V s → FitsStage a (s.thread k) → HasOther V k state.Ready
-not_ready V k None h ne s among f = record { s = s; among = among; other = λ e. let wrong : ⊥ = cc in wrong }
-not_ready V k (Some stage.Fresh) h ne s among f = record { s = s; among = among; other = λ e. let wrong : ⊥ = cc in wrong }
-not_ready V k (Some stage.Ready) h ne s among f = absurd (ne refl)
-not_ready V k (Some stage.Started) h ne s among f = record { s = s; among = among; other = λ e. let wrong : ⊥ = cc in wrong }
-not_ready V k (Some stage.Mixed) h ne s among f = of_two V k state.Ready h
-
-not_started : (V : FrameState → Type 0) (k : ℕ) (a : Option Stage) → AttainsStage V k a → a ≢ Some stage.Started → (s : FrameState) → V s → FitsStage a (s.thread k) → HasOther V k state.Started
-not_started V k None h ne s among f = record { s = s; among = among; other = λ e. let wrong : ⊥ = cc in wrong }
-not_started V k (Some stage.Fresh) h ne s among f = record { s = s; among = among; other = λ e. let wrong : ⊥ = cc in wrong }
-not_started V k (Some stage.Ready) h ne s among f = record { s = s; among = among; other = λ e. let wrong : ⊥ = cc in wrong }
-not_started V k (Some stage.Started) h ne s among f = absurd (ne refl)
-not_started V k (Some stage.Mixed) h ne s among f = of_two V k state.Started h
+misses_shown (thread.Starts k) a s h wrong = (h.stage k).unready wrong
+misses_shown (thread.Joins k) a s h wrong = (h.stage k).unawaited wrong.0 wrong.1
+misses_shown (thread.Asks k) a s h wrong = (h.stage k).unstarted wrong
 
 -- some state misses the thread
 pub record HasMiss (V : FrameState → Type 0) (c : ThreadChange) : Type 0 where
@@ -211,12 +169,9 @@ misses_there : (V : FrameState → Type 0) (c : ThreadChange) (a : Summary) → 
 misses_there V thread.Stays a v wrong = absurd wrong
 misses_there V (thread.Makes k) a v wrong = absurd wrong
 misses_there V (thread.Readies k) a v wrong = absurd wrong
-misses_there V (thread.Starts k) a v wrong =
-    let h = not_ready V k (a.stage k) (v.stage k) wrong v.state v.among ((v.below v.state v.among).stage k) in
-    record { s = h.s; among = h.among; misses = h.other }
-misses_there V (thread.Joins k) a v wrong =
-    let h = not_started V k (a.stage k) (v.stage k) wrong v.state v.among ((v.below v.state v.among).stage k) in
-    record { s = h.s; among = h.among; misses = h.other }
+misses_there V (thread.Starts k) a v wrong = let h = (v.stage k).unready wrong in record { s = h.s; among = h.among; misses = h.has }
+misses_there V (thread.Joins k) a v wrong = let h = (v.stage k).unawaited wrong in record { s = h.s; among = h.among; misses = h.has }
+misses_there V (thread.Asks k) a v wrong = let h = (v.stage k).unstarted wrong in record { s = h.s; among = h.among; misses = h.has }
 
 mixed_there : (V : FrameState → Type 0) (f : Frame) (d : Deed) (a : Summary) → Describes V a → ((s : FrameState) → V s → meets f.result d s ≡ summary_meets f.result d a) →
     (m : Meeting) → summary_meets f.result d a ≡ m → MeetsMixed m a.stage → FaultIn V f d kind.ThreadState

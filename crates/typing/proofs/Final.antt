@@ -1,6 +1,7 @@
 -- What is kept in the end describes all paths.
 use Rattle.std.proofs.Common.{◌≡◌, ◌<◌, ◌+◌, ℕ, zero, suc, pos, List, false, Option, Some, None, Contains, length, get_or, inl, inr, refl, sym, ap, subst, ◌∙◌, arith, [], ◌∷◌, ◌++◌, length-append}
 use Rattle.std.proofs.lemmas.List.{get_or_append_left, get_or_push}
+use Rattle.typing.proofs.Objects.{fresh_not_made}
 use Rattle.typing.proofs.Arrivals.{at_or_before}
 use Rattle.std.specs.List.{slice_get}
 use Rattle.std.proofs.lemmas.Option.{same_Some, slice_get_within, get_or_from_slice_get, slice_get_read}
@@ -123,7 +124,7 @@ known_type : (V : FrameState → Type 0) (slot : ℕ) (t : ValueType) (s : Frame
 known_type V slot t s among None h f all = absurd (no_clash (Known t) _ _ (all h.s h.s_among) (all h.t h.t_among) h.clash)
 known_type V slot t s among (Some (Known u)) h f all = ap (λ x. Some (Known x)) (same_Some u t (sym f ∙ all s among))
 known_type V slot t s among (Some (Made k)) h f all =
-    let wrong : ⊥ = cc (h.0.has, h.1.has, all h.0.s h.0.among, all h.1.s h.1.among) in absurd wrong
+    absurd (fresh_not_made k k (same_Some _ _ (sym h.0.has ∙ all h.0.s h.0.among ∙ sym (all h.1.s h.1.among) ∙ h.1.has)))
 
 pub told_typed : (m : UntypedMethod) (pc : ℕ) (a : Summary) (state : TypedState) → Describes (Arrives m pc) a → a.stacks_differ ≡ false → a.held_differs ≡ false → IsTold a state → IsTypedState m pc state
 told_typed m pc a state d stacks held told = record {

@@ -1,6 +1,7 @@
 pub mod Keys
 pub mod Behind
 pub mod Joins
+pub mod Objects
 pub mod Places
 pub mod Arrivals
 pub mod Landing

@@ -1,15 +1,15 @@
 -- What is kept sinks.
-use Rattle.std.proofs.Common.{◌≡◌, ◌≢◌, ◌<◌, ◌≤◌, ◌+◌, ◌*◌, ◌^◌, ℕ, zero, suc, Bool, true, false, List, [], ◌∷◌, Option, Some, None, length, ◌⊎◌, inl, inr, refl, sym, ap, subst, arith}
+use Rattle.std.proofs.Common.{◌≡◌, ◌≢◌, ◌<◌, ◌≤◌, ◌+◌, ◌*◌, ◌^◌, ◌||◌, ℕ, zero, suc, Bool, true, false, List, [], ◌∷◌, Option, Some, None, length, ◌⊎◌, inl, inr, refl, sym, ap, subst, arith, ◌∙◌}
 use Rattle.std.proofs.lemmas.Bool.{cases_eq}
 use Rattle.std.proofs.lemmas.Option.{same_Some}
-use Rattle.typing.specs.Joining.{Joins, JoinsLocal, JoinsStage, joined_thread}
+use Rattle.typing.specs.Joining.{Joins, JoinsLocal, either_stage, joined_object}
 use Rattle.typing.specs.Joining as joining
 use Rattle.typing.specs.Ranks.{Differs, by_local, by_stage, by_stack, by_stacks_differ, by_held, by_held_differs, local_rank, stage_rank, agreement_rank, total, number_rank, summary_rank, LeadsDown, IsLowered}
+use Rattle.typing.specs.declared.object.Object.{Object}
 use Rattle.typing.specs.Summaries.{Summary, JoinsSummaries}
 use Rattle.typing.specs.declared.joined_type.JoinedType.{JoinedType}
 use Rattle.typing.specs.declared.joined_type.JoinedType.TheVariants.{Known, Made}
 use Rattle.typing.specs.declared.stage.Stage.{Stage}
-use Rattle.typing.specs.declared.stage.Stage.TheVariants as stage
 
 -- ---- Locals
 
@@ -27,7 +27,7 @@ local_most None b r is = let P : Option JoinedType → Type 0 = λ o. local_rank
 local_most (Some a) None r is = let P : Option JoinedType → Type 0 = λ o. local_rank o ≤ local_rank (Some a) in subst P (sym is) (omega arith)
 local_most (Some a) (Some b) r j = two_kinds a b r j
 
-turns_made : (a : JoinedType) (k : ℕ) → joined_thread a ≡ Some k → Some (Made k) ≢ Some a → local_rank (Some (Made k)) < local_rank (Some a)
+turns_made : (a : JoinedType) (k : Object) → joined_object a ≡ Some k → Some (Made k) ≢ Some a → local_rank (Some (Made k)) < local_rank (Some a)
 turns_made (Known t) k is other = omega arith
 turns_made (Made j) k is other = absurd (other (ap (λ n. Some (Made n)) (sym (same_Some j k is))))
 
@@ -48,25 +48,6 @@ local_less (Some a) None r is other =
     subst P (sym is) (omega arith)
 local_less (Some a) (Some b) r j other = two_less a b r j other
 
--- ---- Threads
-
-stage_some : (a : Option Stage) → a ≢ Some stage.Mixed → 0 < stage_rank a
-stage_some None other = omega arith
-stage_some (Some stage.Fresh) other = omega arith
-stage_some (Some stage.Ready) other = omega arith
-stage_some (Some stage.Started) other = omega arith
-stage_some (Some stage.Mixed) other = absurd (other refl)
-
-pub stage_most : (a b r : Option Stage) → JoinsStage a b r → stage_rank r ≤ stage_rank a
-stage_most a b r (joining.same e is) = let P : Option Stage → Type 0 = λ o. stage_rank o ≤ stage_rank a in subst P (sym is) (omega arith)
-stage_most a b r (joining.mixed ne is) = let P : Option Stage → Type 0 = λ o. stage_rank o ≤ stage_rank a in subst P (sym is) (omega arith)
-
-pub stage_less : (a b r : Option Stage) → JoinsStage a b r → r ≢ a → stage_rank r < stage_rank a
-stage_less a b r (joining.same e is) other = absurd (other is)
-stage_less a b r (joining.mixed ne is) other =
-    let P : Option Stage → Type 0 = λ o. o ≢ a → stage_rank o < stage_rank a in
-    subst P (sym is) (λ apart. stage_some a (λ mixed. apart (sym mixed))) other
-
 -- ---- Agreement
 
 pub agreement_most : (a c : Bool) → (c ≡ false → a ≡ false) → agreement_rank c ≤ agreement_rank a
@@ -83,6 +64,44 @@ agreement_less false false h other = absurd (other refl)
 agreement_small : (a : Bool) → agreement_rank a ≤ 1
 agreement_small true = omega arith
 agreement_small false = omega arith
+
+-- ---- Threads
+
+flag_most : (x y : Bool) → agreement_rank (x || y) ≤ agreement_rank x
+flag_most true y = omega arith
+flag_most false true = omega arith
+flag_most false false = omega arith
+
+flag_less : (x y : Bool) → ((x || y) ≡ x) ⊎ (agreement_rank (x || y) < agreement_rank x)
+flag_less true y = inl refl
+flag_less false true = inr (omega arith)
+flag_less false false = inl refl
+
+pub stage_most : (a b r : Stage) → r ≡ either_stage a b → stage_rank r ≤ stage_rank a
+stage_most a b r is =
+    let P : Stage → Type 0 = λ o. stage_rank o ≤ stage_rank a in
+    let first = flag_most a.unready b.unready in
+    let second = flag_most a.unstarted b.unstarted in
+    let third = flag_most a.unawaited b.unawaited in
+    subst P (sym is) (omega arith)
+
+pub stage_less : (a b r : Stage) → r ≡ either_stage a b → r ≢ a → stage_rank r < stage_rank a
+stage_less a b r is other =
+    let P : Stage → Type 0 = λ o. stage_rank o < stage_rank a in
+    let first = flag_most a.unready b.unready in
+    let second = flag_most a.unstarted b.unstarted in
+    let third = flag_most a.unawaited b.unawaited in
+    subst P (sym is)
+    (elim (flag_less a.unready b.unready) [
+      | inr less ↦ omega arith
+      | inl ready ↦ elim (flag_less a.unstarted b.unstarted) [
+        | inr less ↦ omega arith
+        | inl started ↦ elim (flag_less a.unawaited b.unawaited) [
+          | inr less ↦ omega arith
+          | inl awaited ↦ absurd (other (is ∙ rw (ready, started, awaited) refl))
+        ]
+      ]
+    ])
 
 -- ---- Sums
 
@@ -103,7 +122,7 @@ total_less f g (suc n) q h within less =
       | inr other ↦ (let here = h n in let below = total_less f g n q h (omega arith) less in omega arith)
     ]
 
-total_small : (f : ℕ → ℕ) (n : ℕ) → ((q : ℕ) → f q ≤ 3) → total f n ≤ 3 * n
+total_small : (f : ℕ → ℕ) (n : ℕ) → ((q : ℕ) → f q ≤ 5) → total f n ≤ 5 * n
 unfolding total
 total_small f zero h = omega arith
 total_small f (suc n) h = let here = h n in let below = total_small f n h in omega arith
@@ -115,14 +134,14 @@ local_small None = omega arith
 local_small (Some (Known t)) = omega arith
 local_small (Some (Made k)) = omega arith
 
-stage_small : (a : Option Stage) → stage_rank a ≤ 1
-stage_small None = omega arith
-stage_small (Some stage.Fresh) = omega arith
-stage_small (Some stage.Ready) = omega arith
-stage_small (Some stage.Started) = omega arith
-stage_small (Some stage.Mixed) = omega arith
+stage_small : (a : Stage) → stage_rank a ≤ 3
+stage_small a =
+    let first = agreement_small a.unready in
+    let second = agreement_small a.unstarted in
+    let third = agreement_small a.unawaited in
+    omega arith
 
-pub summary_small : (a : Summary) → summary_rank a < 3 * 2 ^ 32 + 3
+pub summary_small : (a : Summary) → summary_rank a < 5 * 2 ^ 32 + 3
 unfolding summary_rank
 summary_small a =
     let all = total_small (number_rank a) (2 ^ 32) (λ q. let l = local_small (a.local q) in let s = stage_small (a.stage q) in omega arith) in

@@ -3,7 +3,7 @@ use Rattle.std.proofs.Common.{◌≡◌, ◌<◌, ◌-◌, ℕ, zero, suc, List,
 use Rattle.std.proofs.lemmas.List.{reverse-reverse}
 use mathlib.Core.List.{reverse_aux}
 use Rattle.program.specs.declared.value_type.ValueType.{ValueType}
-use Rattle.program.specs.declared.value_type.ValueType.TheVariants.{Int, Out, Args, This, Lock, Fresh, Thread}
+use Rattle.program.specs.declared.value_type.ValueType.TheVariants.{Int, Out, Args, This, Lock, Fresh, Thread, FreshTarget, Target}
 use Rattle.typing.specs.Changes.{below_ints}
 
 -- an int above others is taken
@@ -25,6 +25,8 @@ below_none (suc n) (This ∷ stack) lt e = refl
 below_none (suc n) (Lock m ∷ stack) lt e = refl
 below_none (suc n) (Fresh k ∷ stack) lt e = refl
 below_none (suc n) (Thread k ∷ stack) lt e = refl
+below_none (suc n) (FreshTarget k ∷ stack) lt e = refl
+below_none (suc n) (Target k ∷ stack) lt e = refl
 
 -- a list is the only one with its reverse
 pub reverse_once : {A : Type 0} (xs ys : List A) → reverse xs ≡ reverse ys → xs ≡ ys

@@ -2,7 +2,7 @@
 use Rattle.std.specs.Prelude.{◌+◌, ◌-◌, ℕ, zero, suc, List, [], ◌∷◌, Bool, true, false, Option, Some, None, map, nat_eq, if◌then◌else◌}
 use Rattle.std.specs.Option.{option_map, option_and_then}
 use Rattle.program.specs.declared.value_type.ValueType.{ValueType}
-use Rattle.program.specs.declared.value_type.ValueType.TheVariants.{Int, Out, Lock, Fresh, Thread}
+use Rattle.program.specs.declared.value_type.ValueType.TheVariants.{Int, Out, Lock, Fresh, Thread, FreshTarget, Target}
 use Rattle.typing.specs.declared.deed.Deed.{Deed}
 use Rattle.typing.specs.declared.deed.Deed.TheVariants as deed
 use Rattle.typing.specs.declared.change.LocalChange.{LocalChange}
@@ -11,13 +11,11 @@ use Rattle.typing.specs.declared.change.HeldChange.{HeldChange}
 use Rattle.typing.specs.declared.change.HeldChange.TheVariants as held
 use Rattle.typing.specs.declared.change.ThreadChange.{ThreadChange}
 use Rattle.typing.specs.declared.change.ThreadChange.TheVariants as thread
+use Rattle.typing.specs.Objects.{constructed}
+use Rattle.typing.specs.declared.object.Object.{Object}
+use Rattle.typing.specs.declared.object.Object.TheVariants as object
 use Rattle.typing.specs.States.{FrameState, ThreadState, with_value}
 use Rattle.typing.specs.States as state
-
--- the type of an object whose constructor was called, where it is that of thread k
-abbrev pub constructed : ℕ → ValueType → ValueType
-constructed k (Fresh j) = if nat_eq k j then Thread j else Fresh j
-constructed k t = t
 
 -- the stack behind an instruction, and what else it changes
 pub record Change : Type 0 where
@@ -41,7 +39,7 @@ leaves stack = Changes (record { stack = stack; local = local.Stays; held = held
 abbrev pub stores : ℕ → ValueType → List ValueType → Meeting
 stores slot t stack = Changes (record { stack = stack; local = local.Stores slot t; held = held.Stays; thread = thread.Stays })
 
--- a thread is made, started or waited for besides
+-- a thread is made, started, waited for or asked for besides
 abbrev pub turns : ThreadChange → List ValueType → Meeting
 turns change stack = Changes (record { stack = stack; local = local.Stays; held = held.Stays; thread = change })
 
@@ -110,10 +108,22 @@ exits [] = Misfits
 exits (Lock m ∷ stack) = holds (held.Leaves m) stack
 exits (t ∷ stack) = NoLock
 
--- threads; a constructor's call changes each copy of the object's type
+-- objects; a constructor's call changes each copy of the object's type
+abbrev pub completes : Object → ThreadChange → List ValueType → Meeting
+completes o change stack = Changes (record { stack = map (constructed o) stack; local = local.Constructs o; held = held.Stays; thread = change })
+
 abbrev pub constructs : List ValueType → Meeting
-constructs (Fresh k ∷ stack) = Changes (record { stack = map (constructed k) stack; local = local.Constructs k; held = held.Stays; thread = thread.Readies k })
+constructs (Fresh k ∷ stack) = completes (object.Thread k) (thread.Readies k) stack
 constructs _ = Misfits
+
+abbrev pub constructs_target : List ValueType → Meeting
+constructs_target (FreshTarget k ∷ stack) = completes (object.Target k) thread.Stays stack
+constructs_target _ = Misfits
+
+-- a thread is made around its target, both of one number
+abbrev pub wraps : List ValueType → Meeting
+wraps (Target k ∷ Fresh j ∷ stack) = if nat_eq k j then completes (object.Thread j) (thread.Readies j) stack else Misfits
+wraps _ = Misfits
 
 abbrev pub starts : List ValueType → Meeting
 starts (Thread k ∷ stack) = turns (thread.Starts k) stack
@@ -122,6 +132,10 @@ starts _ = Misfits
 abbrev pub joins : List ValueType → Meeting
 joins (Thread k ∷ stack) = turns (thread.Joins k) stack
 joins _ = Misfits
+
+abbrev pub asks : List ValueType → Meeting
+asks (Thread k ∷ stack) = turns (thread.Asks k) (Int ∷ stack)
+asks _ = Misfits
 
 -- returns, by whether the method has a result
 abbrev pub returns_nothing : Bool → List ValueType → Meeting
@@ -149,8 +163,12 @@ meeting result deed.Enter loaded stack = enters stack
 meeting result deed.Leave loaded stack = exits stack
 meeting result (deed.Make k) loaded stack = turns (thread.Makes k) (Fresh k ∷ stack)
 meeting result deed.Construct loaded stack = constructs stack
+meeting result (deed.MakeTarget k) loaded stack = leaves (FreshTarget k ∷ stack)
+meeting result deed.ConstructTarget loaded stack = constructs_target stack
+meeting result deed.Wrap loaded stack = wraps stack
 meeting result deed.Start loaded stack = starts stack
 meeting result deed.Join loaded stack = joins stack
+meeting result deed.Ask loaded stack = asks stack
 meeting result deed.Return loaded stack = returns_nothing result stack
 meeting result deed.ReturnInt loaded stack = returns_int result stack
 meeting result deed.Misplaced loaded stack = Misfits
@@ -192,7 +210,8 @@ threads_behind thread.Stays threads = threads
 threads_behind (thread.Makes k) threads = with_value threads k state.Fresh
 threads_behind (thread.Readies k) threads = with_value threads k state.Ready
 threads_behind (thread.Starts k) threads = with_value threads k state.Started
-threads_behind (thread.Joins k) threads = threads
+threads_behind (thread.Joins k) threads = with_value threads k state.Joined
+threads_behind (thread.Asks k) threads = with_value threads k state.Asked
 
 abbrev pub behind : Change → FrameState → FrameState
 behind c s = record { local = locals_behind c.local s.local; stack = c.stack; held = held_behind c.held s.held; thread = threads_behind c.thread s.thread }

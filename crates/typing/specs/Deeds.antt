@@ -80,14 +80,14 @@ monitor_deed (instr.Ldc index) m = deed.Push (Lock m)
 monitor_deed (instr.LdcW index) m = deed.Push (Lock m)
 monitor_deed _ m = deed.Misplaced
 
--- a thread is made, and its constructor called
-abbrev pub making_deed : Instr → ℕ → Deed
-making_deed (instr.New index) k = deed.Make k
-making_deed _ k = deed.Misplaced
+-- an object is made, and its constructor called
+abbrev pub making_deed : Instr → Deed → Deed
+making_deed (instr.New index) d = d
+making_deed _ d = deed.Misplaced
 
-abbrev pub constructor_deed : Instr → Deed
-constructor_deed (instr.Invokespecial index) = deed.Construct
-constructor_deed _ = deed.Misplaced
+abbrev pub constructor_deed : Instr → Deed → Deed
+constructor_deed (instr.Invokespecial index) d = d
+constructor_deed _ d = deed.Misplaced
 
 -- a call of an object's method, by what the method does
 abbrev pub virtual_deed : Instr → Deed → Deed
@@ -106,9 +106,13 @@ deed_of i (symbol.Variable v) = access_deed i
 deed_of i symbol.Out = out_deed i
 deed_of i symbol.Print = virtual_deed i deed.Print
 deed_of i (symbol.Monitor m) = monitor_deed i m
-deed_of i (symbol.Make k) = making_deed i k
-deed_of i symbol.Construct = constructor_deed i
+deed_of i (symbol.Make k) = making_deed i (deed.Make k)
+deed_of i symbol.Construct = constructor_deed i deed.Construct
+deed_of i (symbol.MakeTarget k) = making_deed i (deed.MakeTarget k)
+deed_of i symbol.ConstructTarget = constructor_deed i deed.ConstructTarget
+deed_of i symbol.Wrap = constructor_deed i deed.Wrap
 deed_of i symbol.Start = virtual_deed i deed.Start
 deed_of i symbol.Join = virtual_deed i deed.Join
+deed_of i symbol.Alive = virtual_deed i deed.Ask
 deed_of i (symbol.Call method parameters leaves) = static_deed i parameters leaves
 deed_of i symbol.Nothing = own_deed i

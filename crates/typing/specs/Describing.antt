@@ -1,10 +1,10 @@
 -- What a summary says of the states that it was made of.
 use Rattle.std.specs.Prelude.{◌≡◌, ◌≢◌, ℕ, true, false, Option, Some, None, ◌⊎◌}
 use Rattle.program.specs.declared.value_type.ValueType.{ValueType}
-use Rattle.program.specs.declared.value_type.ValueType.TheVariants.{Fresh, Thread}
 use Rattle.program.specs.declared.method.Frame.{Frame}
 use Rattle.typing.specs.Faults.{Fails, Disagrees}
-use Rattle.typing.specs.Joining.{thread_of}
+use Rattle.typing.specs.Objects.{fresh_of, made_of, object_of}
+use Rattle.typing.specs.declared.object.Object.{Object}
 use Rattle.typing.specs.States.{FrameState, ThreadState}
 use Rattle.typing.specs.States as state
 use Rattle.typing.specs.Summaries.{Summary, summary_of}
@@ -14,21 +14,19 @@ use Rattle.typing.specs.declared.joined_type.JoinedType.{JoinedType}
 use Rattle.typing.specs.declared.joined_type.JoinedType.TheVariants.{Known, Made}
 use Rattle.typing.specs.declared.refusal.TypeKind.{TypeKind}
 use Rattle.typing.specs.declared.stage.Stage.{Stage}
-use Rattle.typing.specs.declared.stage.Stage.TheVariants as stage
 
 -- ---- What holds of each state
 
 abbrev pub FitsLocal : Option JoinedType → Option ValueType → Type 0
 FitsLocal None v = Unit {0}
 FitsLocal (Some (Known t)) v = v ≡ Some t
-FitsLocal (Some (Made k)) v = (v ≡ Some (Fresh k)) ⊎ (v ≡ Some (Thread k))
+FitsLocal (Some (Made o)) v = (v ≡ Some (fresh_of o)) ⊎ (v ≡ Some (made_of o))
 
-abbrev pub FitsStage : Option Stage → ThreadState → Type 0
-FitsStage None v = v ≡ state.Unmade
-FitsStage (Some stage.Fresh) v = v ≡ state.Fresh
-FitsStage (Some stage.Ready) v = v ≡ state.Ready
-FitsStage (Some stage.Started) v = v ≡ state.Started
-FitsStage (Some stage.Mixed) v = Unit {0}
+-- what is not so in this state is known not to be so on some path
+pub record FitsStage (a : Stage) (v : ThreadState) : Type 0 where
+  pub unready : v ≢ state.Ready → a.unready ≡ true
+  pub unstarted : v ≢ state.Started → a.unstarted ≡ true
+  pub unawaited : v ≢ state.Started → v ≢ state.Joined → a.unawaited ≡ true
 
 pub record IsBelow (a : Summary) (s : FrameState) : Type 0 where
   pub stack : a.stacks_differ ≡ false → s.stack ≡ a.stack
@@ -38,11 +36,11 @@ pub record IsBelow (a : Summary) (s : FrameState) : Type 0 where
 
 -- ---- What comes about by some of the states
 
--- a local has nothing on one of two paths, or other types than those of one thread's object
+-- a local has nothing on one of two paths, or other types than those of one object
 pub data Clash (v w : Option ValueType) : Type 0 where
   first : v ≡ None → Clash v w
   second : w ≡ None → Clash v w
-  two : (t u : ValueType) → v ≡ Some t → w ≡ Some u → t ≢ u → ((k : ℕ) → thread_of t ≡ Some k → thread_of u ≡ Some k → ⊥) → Clash v w
+  two : (t u : ValueType) → v ≡ Some t → w ≡ Some u → t ≢ u → ((o : Object) → object_of t ≡ Some o → object_of u ≡ Some o → ⊥) → Clash v w
 
 -- one of the states has this in the local
 pub record HasLocal (V : FrameState → Type 0) (slot : ℕ) (v : Option ValueType) : Type 0 where
@@ -60,20 +58,21 @@ pub record HasClash (V : FrameState → Type 0) (slot : ℕ) : Type 0 where
 abbrev pub AttainsLocal : (FrameState → Type 0) → ℕ → Option JoinedType → Type 0
 AttainsLocal V slot None = HasClash V slot
 AttainsLocal V slot (Some (Known t)) = Unit {0}
-AttainsLocal V slot (Some (Made k)) = HasLocal V slot (Some (Fresh k)) × HasLocal V slot (Some (Thread k))
+AttainsLocal V slot (Some (Made o)) = HasLocal V slot (Some (fresh_of o)) × HasLocal V slot (Some (made_of o))
 
--- two of the states differ in a thread, in the stack, or in a monitor
-pub record DifferInThread (V : FrameState → Type 0) (k : ℕ) : Type 0 where
+-- one of the states has a thread in such a state
+pub record HasThread (V : FrameState → Type 0) (k : ℕ) (P : ThreadState → Type 0) : Type 0 where
   pub s : FrameState
-  pub t : FrameState
-  pub s_among : V s
-  pub t_among : V t
-  pub differ : s.thread k ≢ t.thread k
+  pub among : V s
+  pub has : P (s.thread k)
 
-abbrev pub AttainsStage : (FrameState → Type 0) → ℕ → Option Stage → Type 0
-AttainsStage V k (Some stage.Mixed) = DifferInThread V k
-AttainsStage V k _ = Unit {0}
+-- what is known not to be so on some path is not so in one of the states
+pub record AttainsStage (V : FrameState → Type 0) (k : ℕ) (a : Stage) : Type 0 where
+  pub unready : a.unready ≡ true → HasThread V k (λ v. v ≢ state.Ready)
+  pub unstarted : a.unstarted ≡ true → HasThread V k (λ v. v ≢ state.Started)
+  pub unawaited : a.unawaited ≡ true → HasThread V k (λ v. (v ≢ state.Started) × (v ≢ state.Joined))
 
+-- two of the states differ in the stack, or in a monitor
 pub record DifferInStack (V : FrameState → Type 0) : Type 0 where
   pub s : FrameState
   pub t : FrameState

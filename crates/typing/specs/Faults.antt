@@ -3,7 +3,7 @@ use Rattle.std.specs.Prelude.{◌≡◌, ◌≢◌, ◌<◌, ◌≤◌, ℕ, Opt
 use Rattle.program.specs.declared.method.Frame.{Frame}
 use Rattle.program.specs.declared.value_type.ValueType.{ValueType}
 use Rattle.typing.specs.Changes.{Meeting, Misfits, NoLock, Changes, meets, loaded_slot, used_slot}
-use Rattle.typing.specs.States.{FrameState, ThreadState, Ready, Started}
+use Rattle.typing.specs.States.{FrameState, ThreadState, Ready, Started, Joined}
 use Rattle.typing.specs.declared.change.HeldChange.{HeldChange}
 use Rattle.typing.specs.declared.change.HeldChange.TheVariants as held
 use Rattle.typing.specs.declared.change.ThreadChange.{ThreadChange}
@@ -52,13 +52,14 @@ IsReturn _ = ⊥
 abbrev pub ReturnsHolding : Deed → (ℕ → ℕ) → Type 0
 ReturnsHolding d counts = IsReturn d × ((m : ℕ) × (0 < counts m))
 
--- a thread is started that is not ready, or waited for that is not started
+-- a thread is started that is not ready, waited for that is not started or waited for, or asked for that is not started
 abbrev pub MissesThread : ThreadChange → (ℕ → ThreadState) → Type 0
 MissesThread thread.Stays threads = ⊥
 MissesThread (thread.Makes k) threads = ⊥
 MissesThread (thread.Readies k) threads = ⊥
 MissesThread (thread.Starts k) threads = threads k ≢ Ready
-MissesThread (thread.Joins k) threads = threads k ≢ Started
+MissesThread (thread.Joins k) threads = (threads k ≢ Started) × (threads k ≢ Joined)
+MissesThread (thread.Asks k) threads = threads k ≢ Started
 
 abbrev pub MeetsUnready : Meeting → (ℕ → ThreadState) → Type 0
 MeetsUnready Misfits threads = ⊥

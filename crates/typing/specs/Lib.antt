@@ -6,6 +6,7 @@ pub mod Joining
 pub mod Faults
 pub mod Summaries
 pub mod Describing
+pub mod Objects
 pub mod Paths
 pub mod Ranks
 pub mod Levels

@@ -5,7 +5,6 @@ use Rattle.typing.specs.declared.joined.Joined.{Joined}
 use Rattle.typing.specs.declared.joined_type.JoinedType.{JoinedType}
 use Rattle.typing.specs.declared.joined_type.JoinedType.TheVariants.{Known, Made}
 use Rattle.typing.specs.declared.stage.Stage.{Stage}
-use Rattle.typing.specs.declared.stage.Stage.TheVariants as stage
 
 -- two summaries differ in a local, a thread, the stack or a monitor, or in whether two paths do
 pub data Differs (a b : Summary) : Type 0 where
@@ -22,18 +21,14 @@ local_rank (Some (Known t)) = 2
 local_rank (Some (Made k)) = 1
 local_rank None = 0
 
--- a thread can become one that is not equally far on all paths
-abbrev pub stage_rank : Option Stage → ℕ
-stage_rank None = 1
-stage_rank (Some stage.Fresh) = 1
-stage_rank (Some stage.Ready) = 1
-stage_rank (Some stage.Started) = 1
-stage_rank (Some stage.Mixed) = 0
-
 -- paths that agree can come to differ
 abbrev pub agreement_rank : Bool → ℕ
 agreement_rank true = 0
 agreement_rank false = 1
+
+-- each thing that is true of a thread on some path may come to be
+abbrev pub stage_rank : Stage → ℕ
+stage_rank a = agreement_rank a.unready + agreement_rank a.unstarted + agreement_rank a.unawaited
 
 -- the sum over the first numbers
 unfoldable pub total : (ℕ → ℕ) → ℕ → ℕ
@@ -48,7 +43,7 @@ summary_rank a = total (number_rank a) (2 ^ 32) + agreement_rank a.stacks_differ
 
 -- a place that keeps nothing is above each that keeps something
 abbrev pub place_rank : Option Joined → ℕ
-place_rank None = 3 * 2 ^ 32 + 3
+place_rank None = 5 * 2 ^ 32 + 3
 place_rank (Some x) = summary_rank (summary_of x)
 
 abbrev pub states_rank : List (Option Joined) → ℕ

@@ -6,12 +6,15 @@ use Rattle.typing.specs.declared.untyped.Entry.{Entry}
 use Rattle.typing.specs.declared.untyped.Entry.TheVariants.{Main, Run, Static}
 use Rattle.typing.specs.declared.untyped.UntypedMethod.{UntypedMethod}
 
--- how far a thread has come that a frame makes: no object yet, no constructor called yet, not started yet, started
+-- how far a thread has come that a frame makes: no object yet, no constructor called yet, not started yet, started, waited
+-- for, asked whether it is alive
 pub data ThreadState : Type 0 where
   Unmade : ThreadState
   Fresh : ThreadState
   Ready : ThreadState
   Started : ThreadState
+  Joined : ThreadState
+  Asked : ThreadState
 
 -- a type or nothing in each local, the types on the stack from the top down, how often each monitor was entered and not
 -- left again, and the states of the threads

@@ -5,8 +5,9 @@ use Rattle.program.specs.declared.method.Frame.{Frame}
 use Rattle.program.specs.declared.value_type.ValueType.{ValueType}
 use Rattle.typing.specs.Changes.{Change, Meeting, Misfits, NoLock, Changes, meeting, loaded_slot, used_slot, held_behind}
 use Rattle.typing.specs.Faults.{PastStack, PastLocals, MeetsUnheld, ReturnsHolding, rank_of}
-use Rattle.typing.specs.Joining.{JoinsLocal, JoinsStage, known, local_at, count_at, stage_at, joined_locals_behind, stages_behind}
+use Rattle.typing.specs.Joining.{JoinsLocal, stage_of, either_stage, known, local_at, count_at, stage_at, joined_locals_behind, stages_behind}
 use Rattle.typing.specs.States.{entry_types}
+use Rattle.typing.specs.States as state
 use Rattle.typing.specs.declared.change.ThreadChange.{ThreadChange}
 use Rattle.typing.specs.declared.change.ThreadChange.TheVariants as thread
 use Rattle.typing.specs.declared.deed.Deed.{Deed}
@@ -17,7 +18,6 @@ use Rattle.typing.specs.declared.joined_type.JoinedType.TheVariants.{Known}
 use Rattle.typing.specs.declared.refusal.TypeKind.{TypeKind}
 use Rattle.typing.specs.declared.refusal.TypeKind.TheVariants as kind
 use Rattle.typing.specs.declared.stage.Stage.{Stage}
-use Rattle.typing.specs.declared.stage.Stage.TheVariants as stage
 use Rattle.typing.specs.declared.untyped.UntypedMethod.{UntypedMethod}
 
 -- what is known of the locals; the stack, and whether two paths have different ones; the counts of the monitors, and
@@ -28,7 +28,7 @@ pub record Summary : Type 0 where
   pub stacks_differ : Bool
   pub held : ℕ → ℕ
   pub held_differs : Bool
-  pub stage : ℕ → Option Stage
+  pub stage : ℕ → Stage
 
 abbrev pub summary_of : Joined → Summary
 summary_of j = record { local = local_at j.locals; stack = j.stack; stacks_differ = j.stacks_differ; held = count_at j.held; held_differs = j.held_differs; stage = stage_at j.threads }
@@ -40,7 +40,7 @@ pub record SummarizesEntry (m : UntypedMethod) (a : Summary) : Type 0 where
   pub stacks_agree : a.stacks_differ ≡ false
   pub held : (monitor : ℕ) → a.held monitor ≡ 0
   pub held_agrees : a.held_differs ≡ false
-  pub stage : (k : ℕ) → a.stage k ≡ None
+  pub stage : (k : ℕ) → a.stage k ≡ stage_of state.Unmade
 
 -- the summary of the paths of two summaries
 pub record JoinsSummaries (a b c : Summary) : Type 0 where
@@ -51,7 +51,7 @@ pub record JoinsSummaries (a b c : Summary) : Type 0 where
   pub held : (monitor : ℕ) → c.held monitor ≡ a.held monitor
   pub held_agrees : c.held_differs ≡ false → (a.held_differs ≡ false) × (b.held_differs ≡ false) × ((monitor : ℕ) → a.held monitor ≡ b.held monitor)
   pub held_differs : c.held_differs ≡ true → (a.held_differs ≡ true) ⊎ ((b.held_differs ≡ true) ⊎ ((monitor : ℕ) × (a.held monitor ≢ b.held monitor)))
-  pub stage : (k : ℕ) → JoinsStage (a.stage k) (b.stage k) (c.stage k)
+  pub stage : (k : ℕ) → c.stage k ≡ either_stage (a.stage k) (b.stage k)
 
 -- two summaries that say the same
 pub record IsSameSummary (a b : Summary) : Type 0 where
@@ -81,15 +81,17 @@ pub record Follows (result : Bool) (d : Deed) (a b : Summary) : Type 0 where
   pub changes : summary_meets result d a ≡ Changes change
   pub behind : IsBehind change a b
 
--- a thread is started that is not ready on some path, or waited for that is not started
-abbrev pub MissesStage : ThreadChange → (ℕ → Option Stage) → Type 0
+-- a thread is started that is not ready on some path, waited for that is not started or waited for, or asked for that is not
+-- started
+abbrev pub MissesStage : ThreadChange → (ℕ → Stage) → Type 0
 MissesStage thread.Stays stages = ⊥
 MissesStage (thread.Makes k) stages = ⊥
 MissesStage (thread.Readies k) stages = ⊥
-MissesStage (thread.Starts k) stages = stages k ≢ Some stage.Ready
-MissesStage (thread.Joins k) stages = stages k ≢ Some stage.Started
+MissesStage (thread.Starts k) stages = (stages k).unready ≡ true
+MissesStage (thread.Joins k) stages = (stages k).unawaited ≡ true
+MissesStage (thread.Asks k) stages = (stages k).unstarted ≡ true
 
-abbrev pub MeetsMixed : Meeting → (ℕ → Option Stage) → Type 0
+abbrev pub MeetsMixed : Meeting → (ℕ → Stage) → Type 0
 MeetsMixed Misfits stages = ⊥
 MeetsMixed NoLock stages = ⊥
 MeetsMixed (Changes c) stages = MissesStage c.thread stages

@@ -2,6 +2,7 @@
 
 ghost use Rattle.std.specs.Prelude.{◌≡◌};
 
+use crate::object::Object;
 use program::ValueType;
 
 /// What becomes of the locals.
@@ -11,8 +12,8 @@ pub enum LocalChange {
     Stays,
     /// A local takes a type.
     Stores { slot: u32, holds: ValueType },
-    /// The constructor of a thread's object was called.
-    Constructs(u32),
+    /// The constructor of an object was called.
+    Constructs(Object),
 }
 
 /// What becomes of the monitors that are held.
@@ -39,6 +40,8 @@ pub enum ThreadChange {
     Starts(u32),
     /// Its end is waited for.
     Joins(u32),
+    /// It is asked whether it is alive.
+    Asks(u32),
 }
 
 /// What an instruction changes besides the stack.

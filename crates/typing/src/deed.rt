@@ -35,10 +35,18 @@ pub enum Deed {
     Make(u32),
     /// Calls the constructor of a thread's object.
     Construct,
+    /// Makes the target of a thread.
+    MakeTarget(u32),
+    /// Calls the constructor of a thread's target.
+    ConstructTarget,
+    /// Calls the constructor of a thread's object that takes the thread's target.
+    Wrap,
     /// Starts a thread.
     Start,
     /// Waits for the end of a thread.
     Join,
+    /// Asks whether a thread is alive.
+    Ask,
     /// Returns without a result.
     Return,
     /// Returns an int.

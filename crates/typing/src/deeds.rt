@@ -245,22 +245,22 @@ fn monitor_deed(instr: &Instr, monitor: u32) -> Deed
     }
 }
 
-/// What an instruction does that makes a thread.
-fn making_deed(instr: &Instr, thread: u32) -> Deed
-    ensures { result ≡ making_deed instr.now thread }
+/// What an instruction does that makes an object, by what a `new` of it does.
+fn making_deed(instr: &Instr, deed: Deed) -> Deed
+    ensures { result ≡ making_deed instr.now deed }
 {
     match instr {
-        Instr::New { .. } => Deed::Make(thread),
+        Instr::New { .. } => deed,
         _ => Deed::Misplaced,
     }
 }
 
-/// What an instruction does that names a constructor.
-fn constructor_deed(instr: &Instr) -> Deed
-    ensures { result ≡ constructor_deed instr.now }
+/// What an instruction does that names a constructor, by what the constructor does.
+fn constructor_deed(instr: &Instr, deed: Deed) -> Deed
+    ensures { result ≡ constructor_deed instr.now deed }
 {
     match instr {
-        Instr::Invokespecial { .. } => Deed::Construct,
+        Instr::Invokespecial { .. } => deed,
         _ => Deed::Misplaced,
     }
 }
@@ -298,10 +298,14 @@ pub fn deed_of(instr: &Instr, symbol: &Symbol) -> Deed
         Symbol::Out => out_deed(instr),
         Symbol::Print => virtual_deed(instr, Deed::Print),
         Symbol::Monitor(monitor) => monitor_deed(instr, *monitor),
-        Symbol::Make(thread) => making_deed(instr, *thread),
-        Symbol::Construct => constructor_deed(instr),
+        Symbol::Make(thread) => making_deed(instr, Deed::Make(*thread)),
+        Symbol::Construct => constructor_deed(instr, Deed::Construct),
+        Symbol::MakeTarget(thread) => making_deed(instr, Deed::MakeTarget(*thread)),
+        Symbol::ConstructTarget => constructor_deed(instr, Deed::ConstructTarget),
+        Symbol::Wrap => constructor_deed(instr, Deed::Wrap),
         Symbol::Start => virtual_deed(instr, Deed::Start),
         Symbol::Join => virtual_deed(instr, Deed::Join),
+        Symbol::Alive => virtual_deed(instr, Deed::Ask),
         Symbol::Call {
             method: _,
             parameters,

@@ -12,7 +12,6 @@ use crate::effect::{Met, meet_states, used_slot};
 use crate::joined::Joined;
 use crate::maps::{Held, Threads, count_of, is_any_held, stage_of};
 use crate::refusal::TypeKind;
-use crate::stage::Stage;
 use program::Frame;
 use std::alloc::{AllocError, Global};
 
@@ -53,14 +52,16 @@ fn returns_holding(alloc: Global, deed: Deed, held: &Held) -> Result<bool, Alloc
     is_any_held(alloc, held)
 }
 
-/// Whether a thread is started that is not ready, or waited for that is not started.
+/// Whether a thread is started that is not ready, waited for that is not started or waited for, or asked for that is not
+/// started.
 fn misses_stage(change: ThreadChange, threads: &Threads) -> bool
     ensures { IsTrue result ↔ MissesStage change (stage_at threads.now) }
 {
     match change {
         ThreadChange::Stays | ThreadChange::Makes(_) | ThreadChange::Readies(_) => false,
-        ThreadChange::Starts(thread) => stage_of(threads, thread) != Some(Stage::Ready),
-        ThreadChange::Joins(thread) => stage_of(threads, thread) != Some(Stage::Started),
+        ThreadChange::Starts(thread) => stage_of(threads, thread).unready,
+        ThreadChange::Joins(thread) => stage_of(threads, thread).unawaited,
+        ThreadChange::Asks(thread) => stage_of(threads, thread).unstarted,
     }
 }
 

@@ -1,8 +1,10 @@
 //! What is known of a local on the paths to a place.
 
 ghost use Rattle.std.specs.Prelude.{◌≡◌};
-ghost use Rattle.typing.specs.Joining.{Joins, JoinsLocal, joined_thread, thread_of, known, constructed_local};
+ghost use Rattle.typing.specs.Objects.{object_of};
+ghost use Rattle.typing.specs.Joining.{Joins, JoinsLocal, joined_object, known, constructed_local};
 
+use crate::object::Object;
 use crate::stack::constructed;
 use program::ValueType;
 
@@ -11,27 +13,30 @@ use program::ValueType;
 pub enum JoinedType {
     /// It has this type on all paths.
     Known(ValueType),
-    /// It has the object of this thread on all paths; on some of them the constructor was called, and on others not.
-    Made(u32),
+    /// It has this object on all paths; on some of them the constructor was called, and on others not.
+    Made(Object),
 }
 
-/// The thread whose object, constructed or not, has this type.
-fn thread_of(holds: ValueType) -> Option<u32>
-    ensures { result ≡ thread_of holds }
+/// The object, constructed or not, that has this type.
+fn object_of(holds: ValueType) -> Option<Object>
+    ensures { result ≡ object_of holds }
 {
     match holds {
-        ValueType::Fresh(thread) | ValueType::Thread(thread) => Some(thread),
+        ValueType::Fresh(thread) | ValueType::Thread(thread) => Some(Object::Thread(thread)),
+        ValueType::FreshTarget(thread) | ValueType::Target(thread) => {
+            Some(Object::Target(thread))
+        }
         _ => None,
     }
 }
 
-/// The thread whose object a local has.
-fn joined_thread(holds: JoinedType) -> Option<u32>
-    ensures { result ≡ joined_thread holds }
+/// The object that a local has.
+fn joined_object(holds: JoinedType) -> Option<Object>
+    ensures { result ≡ joined_object holds }
 {
     match holds {
-        JoinedType::Known(holds) => thread_of(holds),
-        JoinedType::Made(thread) => Some(thread),
+        JoinedType::Known(holds) => object_of(holds),
+        JoinedType::Made(object) => Some(object),
     }
 }
 
@@ -42,8 +47,8 @@ fn join_types(a: JoinedType, b: JoinedType) -> Option<JoinedType>
     if a == b {
         return Some(a);
     }
-    match (joined_thread(a), joined_thread(b)) {
-        (Some(thread), Some(other)) if thread == other => Some(JoinedType::Made(thread)),
+    match (joined_object(a), joined_object(b)) {
+        (Some(object), Some(other)) if object == other => Some(JoinedType::Made(object)),
         _ => None,
     }
 }
@@ -68,13 +73,13 @@ pub fn known(holds: Option<JoinedType>) -> Option<ValueType>
     }
 }
 
-/// What is known of a local behind the constructor's call of a thread.
-pub fn constructed_local(thread: u32, holds: JoinedType) -> JoinedType
-    ensures { result ≡ constructed_local thread holds }
+/// What is known of a local behind the constructor's call of an object.
+pub fn constructed_local(object: Object, holds: JoinedType) -> JoinedType
+    ensures { result ≡ constructed_local object holds }
 {
     match holds {
-        JoinedType::Known(holds) => JoinedType::Known(constructed(thread, holds)),
-        JoinedType::Made(made) if made == thread => JoinedType::Known(ValueType::Thread(made)),
+        JoinedType::Known(holds) => JoinedType::Known(constructed(object, holds)),
+        JoinedType::Made(made) if object.same(made) => JoinedType::Known(made.made()),
         JoinedType::Made(made) => JoinedType::Made(made),
     }
 }

@@ -14,6 +14,7 @@ mod level;
 mod look;
 mod maps;
 mod meeting;
+mod object;
 mod output;
 mod refusal;
 mod stack;

@@ -7,11 +7,12 @@ ghost use Rattle.std.specs.Ordering.{nat_cmp};
 ghost use Rattle.std.specs.BTreeMap.{get};
 ghost use Rattle.typing.specs.States.{with_value};
 ghost use Rattle.typing.specs.Changes.{held_behind};
-ghost use Rattle.typing.specs.Joining.{JoinsLocal, JoinsStage, local_at, count_at, stage_at, joined_locals_behind, stages_behind, constructed_local};
+ghost use Rattle.typing.specs.Joining.{JoinsLocal, either_stage, local_at, count_at, stage_at, joined_locals_behind, stages_behind, constructed_local};
 
 use crate::change::{HeldChange, LocalChange, ThreadChange};
 use crate::joined_type::{JoinedType, constructed_local, join_local};
-use crate::stage::Stage;
+use crate::object::Object;
+use crate::stage::{APART, JOINED, READY, STARTED, Stage};
 use std::alloc::{AllocError, Global};
 use std::collections::BTreeMap;
 
@@ -21,7 +22,7 @@ pub type Locals = BTreeMap<u32, JoinedType>;
 /// How often monitors are held. One that isn't held is not there.
 pub type Held = BTreeMap<u32, u32>;
 
-/// How far threads have come. One that is made on no path is not there.
+/// What is known of threads. One that is made on no path is not there.
 pub type Threads = BTreeMap<u32, Stage>;
 
 /// The numbers that a map has something for.
@@ -77,45 +78,37 @@ pub fn join_locals(alloc: Global, a: &Locals, b: &Locals) -> Result<Locals, Allo
     Ok(joined)
 }
 
-/// How far a thread has come.
-pub fn stage_of(threads: &Threads, thread: u32) -> Option<Stage>
+/// What is known of a thread.
+pub fn stage_of(threads: &Threads, thread: u32) -> Stage
     ensures { result ≡ stage_at threads.now thread }
 {
-    threads.get(&thread).copied()
+    threads.get(&thread).copied().unwrap_or(APART)
 }
 
-/// How far a thread has come on the paths of two kinds.
-fn joined_stage(a: &Threads, b: &Threads, thread: u32) -> Option<Stage>
-    ensures { JoinsStage (stage_at a.now thread) (stage_at b.now thread) result }
+/// What is known of a thread on the paths of two kinds.
+fn joined_stage(a: &Threads, b: &Threads, thread: u32) -> Stage
+    ensures { result ≡ either_stage (stage_at a.now thread) (stage_at b.now thread) }
 {
-    let first = stage_of(a, thread);
-    if first == stage_of(b, thread) {
-        first
-    } else {
-        Some(Stage::Mixed)
-    }
+    stage_of(a, thread).either(stage_of(b, thread))
 }
 
-/// Something for a number, if there is anything.
-fn put_stage(threads: &mut Threads, thread: u32, stage: Option<Stage>) -> Result<(), AllocError>
-    ensures here { OnOk result (stage_at threads.new thread ≡ option_or stage (stage_at threads.old thread)) }
+/// What is known of a thread.
+fn put_stage(threads: &mut Threads, thread: u32, stage: Stage) -> Result<(), AllocError>
+    ensures here { OnOk result (stage_at threads.new thread ≡ stage) }
     ensures apart { OnOk result ((q : ℕ) → q ≢ thread → stage_at threads.new q ≡ stage_at threads.old q) }
 {
-    if let Some(stage) = stage {
-        threads.insert(thread, stage)?;
-    }
+    threads.insert(thread, stage)?;
     Ok(())
 }
 
-/// Adds how far the threads of this list have come on the paths of two kinds.
+/// Adds what is known of the threads of this list on the paths of two kinds.
 fn join_stages(
     joined: &mut Threads,
     listed: &[u32],
     a: &Threads,
     b: &Threads,
 ) -> Result<(), AllocError>
-    requires { (q : ℕ) → JoinsStage (stage_at a.now q) (stage_at b.now q) (stage_at joined.old q) ⊎ (stage_at joined.old q ≡ None) }
-    ensures listed { OnOk result ((q : ℕ) → list_any (nat_eq q) listed.now ≡ true → JoinsStage (stage_at a.now q) (stage_at b.now q) (stage_at joined.new q)) }
+    ensures listed { OnOk result ((q : ℕ) → list_any (nat_eq q) listed.now ≡ true → stage_at joined.new q ≡ either_stage (stage_at a.now q) (stage_at b.now q)) }
     ensures others { OnOk result ((q : ℕ) → list_any (nat_eq q) listed.now ≡ false → stage_at joined.new q ≡ stage_at joined.old q) }
 {
     for thread in listed {
@@ -125,9 +118,9 @@ fn join_stages(
     Ok(())
 }
 
-/// How far the threads have come on the paths of two kinds.
+/// What is known of the threads on the paths of two kinds.
 pub fn join_threads(alloc: Global, a: &Threads, b: &Threads) -> Result<Threads, AllocError>
-    ensures { IfOk result (λ r. (q : ℕ) → JoinsStage (stage_at a.now q) (stage_at b.now q) (stage_at r q)) }
+    ensures { IfOk result (λ r. (q : ℕ) → stage_at r q ≡ either_stage (stage_at a.now q) (stage_at b.now q)) }
 {
     let mut joined = BTreeMap::new(alloc);
     let first = keys_of(alloc, a)?;
@@ -145,7 +138,7 @@ fn is_same_local(a: &Locals, b: &Locals, slot: u32) -> bool
     local_of(a, slot) == local_of(b, slot)
 }
 
-/// Whether a thread has come equally far.
+/// Whether the same is known of a thread.
 fn is_same_stage(a: &Threads, b: &Threads, thread: u32) -> bool
     ensures same { IsTrue result ↔ (stage_at a.now thread ≡ stage_at b.now thread) }
     ensures small { thread < 2 ^ 32 }
@@ -173,7 +166,7 @@ fn agree_on_locals(listed: &[u32], a: &Locals, b: &Locals) -> bool
     true
 }
 
-/// Whether the threads of this list have come equally far.
+/// Whether the same is known of the threads of this list.
 fn agree_on_threads(listed: &[u32], a: &Threads, b: &Threads) -> bool
     ensures agrees { IsTrue result ↔ ((q : ℕ) → list_any (nat_eq q) listed.now ≡ true → stage_at a.now q ≡ stage_at b.now q) }
     ensures differs { result ≡ false → (q : ℕ) × (q < 2 ^ 32) × (stage_at a.now q ≢ stage_at b.now q) }
@@ -209,7 +202,7 @@ pub fn are_same_locals(alloc: Global, a: &Locals, b: &Locals) -> Result<bool, Al
     Ok(agree_on_locals(&first, a, b) && agree_on_locals(&second, a, b))
 }
 
-/// Whether the threads have come equally far.
+/// Whether the same is known of the threads.
 pub fn are_same_threads(alloc: Global, a: &Threads, b: &Threads) -> Result<bool, AllocError>
     ensures same { IfOk result (λ yes_or_no. IsTrue yes_or_no ↔ ((q : ℕ) → stage_at a.now q ≡ stage_at b.now q)) }
     ensures differ { IfOk result (λ yes_or_no. yes_or_no ≡ false → (q : ℕ) × (q < 2 ^ 32) × (stage_at a.now q ≢ stage_at b.now q)) }
@@ -229,24 +222,24 @@ pub fn are_same_held(alloc: Global, a: &Held, b: &Held) -> Result<bool, AllocErr
     Ok(agree_on_held(&first, a, b) && agree_on_held(&second, a, b))
 }
 
-/// The constructor of a thread was called: its object is constructed in a local.
-fn construct_at(locals: &mut Locals, slot: u32, thread: u32) -> Result<(), AllocError>
-    ensures here { OnOk result (local_at locals.new slot ≡ option_map (constructed_local thread) (local_at locals.old slot)) }
+/// The constructor of an object was called: it is constructed in a local.
+fn construct_at(locals: &mut Locals, slot: u32, object: Object) -> Result<(), AllocError>
+    ensures here { OnOk result (local_at locals.new slot ≡ option_map (constructed_local object) (local_at locals.old slot)) }
     ensures apart { OnOk result ((q : ℕ) → q ≢ slot → local_at locals.new q ≡ local_at locals.old q) }
 {
     match local_of(locals, slot) {
-        Some(holds) => put_local(locals, slot, Some(constructed_local(thread, holds))),
+        Some(holds) => put_local(locals, slot, Some(constructed_local(object, holds))),
         None => Ok(()),
     }
 }
 
-/// The constructor of a thread was called: its object is constructed in each of the locals of this list.
-fn construct_locals(locals: &mut Locals, listed: &[u32], thread: u32) -> Result<(), AllocError>
-    ensures listed { OnOk result ((q : ℕ) → list_any (nat_eq q) listed.now ≡ true → local_at locals.new q ≡ option_map (constructed_local thread) (local_at locals.old q)) }
+/// The constructor of an object was called: it is constructed in each of the locals of this list.
+fn construct_locals(locals: &mut Locals, listed: &[u32], object: Object) -> Result<(), AllocError>
+    ensures listed { OnOk result ((q : ℕ) → list_any (nat_eq q) listed.now ≡ true → local_at locals.new q ≡ option_map (constructed_local object) (local_at locals.old q)) }
     ensures others { OnOk result ((q : ℕ) → list_any (nat_eq q) listed.now ≡ false → local_at locals.new q ≡ local_at locals.old q) }
 {
     for slot in listed {
-        construct_at(locals, *slot, thread)?;
+        construct_at(locals, *slot, object)?;
     }
     Ok(())
 }
@@ -266,9 +259,9 @@ pub fn change_locals(
             slot,
             Some(JoinedType::Known(holds)),
         ),
-        LocalChange::Constructs(thread) => {
+        LocalChange::Constructs(object) => {
             let listed = keys_of(alloc, locals)?;
-            construct_locals(locals, &listed, thread)
+            construct_locals(locals, &listed, object)
         }
     }
 }
@@ -278,10 +271,13 @@ pub fn change_threads(threads: &mut Threads, change: ThreadChange) -> Result<(),
     ensures { OnOk result ((q : ℕ) → stage_at threads.new q ≡ stages_behind change (stage_at threads.old) q) }
 {
     match change {
-        ThreadChange::Stays | ThreadChange::Joins(_) => Ok(()),
-        ThreadChange::Makes(thread) => put_stage(threads, thread, Some(Stage::Fresh)),
-        ThreadChange::Readies(thread) => put_stage(threads, thread, Some(Stage::Ready)),
-        ThreadChange::Starts(thread) => put_stage(threads, thread, Some(Stage::Started)),
+        ThreadChange::Stays => Ok(()),
+        ThreadChange::Makes(thread) | ThreadChange::Asks(thread) => {
+            put_stage(threads, thread, APART)
+        }
+        ThreadChange::Readies(thread) => put_stage(threads, thread, READY),
+        ThreadChange::Starts(thread) => put_stage(threads, thread, STARTED),
+        ThreadChange::Joins(thread) => put_stage(threads, thread, JOINED),
     }
 }
 

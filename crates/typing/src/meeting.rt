@@ -2,11 +2,12 @@
 
 ghost use Rattle.std.specs.Prelude.{◌≡◌, ◌∷◌, List, Some, None, IfOk, IfErr};
 ghost use Rattle.program.specs.declared.value_type.ValueType.{ValueType};
-ghost use Rattle.typing.specs.Changes.{leaves, below_ints, pushes_result, prints, discards, doubles, exchanges, loads_int, loads_reference, stores_int, stores_reference, increments, enters, exits, constructs, starts, joins, turns, returns_nothing, returns_int, meeting};
+ghost use Rattle.typing.specs.Changes.{leaves, below_ints, pushes_result, prints, discards, doubles, exchanges, loads_int, loads_reference, stores_int, stores_reference, increments, enters, exits, completes, constructs, constructs_target, wraps, starts, joins, asks, turns, returns_nothing, returns_int, meeting};
 ghost use Rattle.typing.specs.Meets.{IsChange, IsMisfit};
 
 use crate::change::{Changed, HeldChange, LocalChange, Misfit, ThreadChange};
 use crate::deed::Deed;
+use crate::object::Object;
 use crate::stack::TypeStack;
 use program::ValueType;
 
@@ -207,6 +208,26 @@ fn make(stack: &mut TypeStack, thread: u32) -> Result<Changed, Misfit>
     }
 }
 
+/// Makes the target of a thread.
+fn make_target(stack: &mut TypeStack, thread: u32) -> Result<Changed, Misfit>
+    ensures ok { IfOk result (IsChange (leaves (ValueType.FreshTarget thread ∷ stack.old)) stack.new) }
+    ensures err { IfErr result (IsMisfit (leaves (ValueType.FreshTarget thread ∷ stack.old))) }
+{
+    push(stack, ValueType::FreshTarget(thread))
+}
+
+/// The constructor of an object was called, which makes a thread ready or not.
+fn construct_object(stack: &mut TypeStack, object: Object, thread: ThreadChange) -> Changed
+    ensures { IsChange (completes object thread stack.old) stack.new result }
+{
+    stack.construct(object);
+    Changed {
+        local: LocalChange::Constructs(object),
+        held: HeldChange::Stays,
+        thread,
+    }
+}
+
 /// Calls the constructor of a thread's object.
 fn construct(stack: &mut TypeStack) -> Result<Changed, Misfit>
     ensures ok { IfOk result (IsChange (constructs stack.old) stack.new) }
@@ -215,12 +236,38 @@ fn construct(stack: &mut TypeStack) -> Result<Changed, Misfit>
     let Some(ValueType::Fresh(thread)) = stack.pop() else {
         return Err(Misfit::Operands);
     };
-    stack.construct(thread);
-    Ok(Changed {
-        local: LocalChange::Constructs(thread),
-        held: HeldChange::Stays,
-        thread: ThreadChange::Readies(thread),
-    })
+    let ready = ThreadChange::Readies(thread);
+    Ok(construct_object(stack, Object::Thread(thread), ready))
+}
+
+/// Calls the constructor of a thread's target.
+fn construct_target(stack: &mut TypeStack) -> Result<Changed, Misfit>
+    ensures ok { IfOk result (IsChange (constructs_target stack.old) stack.new) }
+    ensures err { IfErr result (IsMisfit (constructs_target stack.old)) }
+{
+    let Some(ValueType::FreshTarget(thread)) = stack.pop() else {
+        return Err(Misfit::Operands);
+    };
+    let stays = ThreadChange::Stays;
+    Ok(construct_object(stack, Object::Target(thread), stays))
+}
+
+/// Calls the constructor of a thread's object that takes the thread's target.
+fn wrap(stack: &mut TypeStack) -> Result<Changed, Misfit>
+    ensures ok { IfOk result (IsChange (wraps stack.old) stack.new) }
+    ensures err { IfErr result (IsMisfit (wraps stack.old)) }
+{
+    let Some(ValueType::Target(target)) = stack.pop() else {
+        return Err(Misfit::Operands);
+    };
+    let Some(ValueType::Fresh(thread)) = stack.pop() else {
+        return Err(Misfit::Operands);
+    };
+    if target != thread {
+        return Err(Misfit::Operands);
+    }
+    let ready = ThreadChange::Readies(thread);
+    Ok(construct_object(stack, Object::Thread(thread), ready))
 }
 
 /// Starts a thread.
@@ -242,6 +289,20 @@ fn join(stack: &mut TypeStack) -> Result<Changed, Misfit>
     match stack.pop() {
         Some(ValueType::Thread(thread)) => Ok(Changed::in_thread(ThreadChange::Joins(thread))),
         _ => Err(Misfit::Operands),
+    }
+}
+
+/// Asks whether a thread is alive.
+fn ask(stack: &mut TypeStack) -> Result<Changed, Misfit>
+    ensures ok { IfOk result (IsChange (asks stack.old) stack.new) }
+    ensures err { IfErr result (IsMisfit (asks stack.old)) }
+{
+    let Some(ValueType::Thread(thread)) = stack.pop() else {
+        return Err(Misfit::Operands);
+    };
+    match stack.push(ValueType::Int) {
+        Ok(()) => Ok(Changed::in_thread(ThreadChange::Asks(thread))),
+        Err(_) => Err(Misfit::Memory),
     }
 }
 
@@ -297,8 +358,12 @@ pub fn meet(
         Deed::Leave => leave(stack),
         Deed::Make(thread) => make(stack, thread),
         Deed::Construct => construct(stack),
+        Deed::MakeTarget(thread) => make_target(stack, thread),
+        Deed::ConstructTarget => construct_target(stack),
+        Deed::Wrap => wrap(stack),
         Deed::Start => start(stack),
         Deed::Join => join(stack),
+        Deed::Ask => ask(stack),
         Deed::Return => return_nothing(has_result),
         Deed::ReturnInt => return_int(stack, has_result),
         Deed::Misplaced => Err(Misfit::Operands),

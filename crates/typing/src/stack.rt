@@ -1,8 +1,9 @@
 //! The types on the operand stack.
 
 ghost use Rattle.std.specs.Prelude.{◌≡◌, ◌≤◌, ◌<◌, ◌^◌, [], ◌∷◌, map, length, MatchOption, OnOk, OnErr, IfOk, IsTrue, ◌↔◌};
-ghost use Rattle.typing.specs.Changes.{constructed};
+ghost use Rattle.typing.specs.Objects.{constructed};
 
+use crate::object::Object;
 use program::ValueType;
 use std::alloc::{AllocError, Global};
 use std::marker::Model;
@@ -22,12 +23,17 @@ impl Model for TypeStack {
     ghost view = { λ s. reverse s.items.items };
 }
 
-/// The type, where it is that of thread k's object and its constructor was called.
-pub fn constructed(thread: u32, holds: ValueType) -> ValueType
-    ensures { result ≡ constructed thread holds }
+/// The type behind the constructor's call of an object.
+pub fn constructed(object: Object, holds: ValueType) -> ValueType
+    ensures { result ≡ constructed object holds }
 {
     match holds {
-        ValueType::Fresh(made) if made == thread => ValueType::Thread(thread),
+        ValueType::Fresh(thread) if object.same(Object::Thread(thread)) => {
+            ValueType::Thread(thread)
+        }
+        ValueType::FreshTarget(thread) if object.same(Object::Target(thread)) => {
+            ValueType::Target(thread)
+        }
         other => other,
     }
 }
@@ -47,12 +53,12 @@ fn are_same(a: &[ValueType], b: &[ValueType]) -> bool
     true
 }
 
-/// The constructor of a thread's object was called.
-fn construct_all(items: &mut [ValueType], thread: u32)
-    ensures { items.new ≡ map (constructed thread) items.old }
+/// The constructor of an object was called.
+fn construct_all(items: &mut [ValueType], object: Object)
+    ensures { items.new ≡ map (constructed object) items.old }
 {
     for item in items.iter_mut() {
-        *item = constructed(thread, *item);
+        *item = constructed(object, *item);
     }
 }
 
@@ -114,10 +120,10 @@ impl TypeStack {
         self.items.as_slice()
     }
 
-    /// The constructor of a thread's object was called.
-    pub fn construct(&mut self, thread: u32)
-        ensures { self.new ≡ map (constructed thread) self.old }
+    /// The constructor of an object was called.
+    pub fn construct(&mut self, object: Object)
+        ensures { self.new ≡ map (constructed object) self.old }
     {
-        construct_all(&mut self.items, thread);
+        construct_all(&mut self.items, object);
     }
 }

@@ -19,10 +19,18 @@ pub enum Symbol {
     Make(u32),
     /// The `invokespecial` of a thread class's constructor.
     Construct,
+    /// The `new` that makes the target of this thread.
+    MakeTarget(u32),
+    /// The `invokespecial` of a target class's constructor.
+    ConstructTarget,
+    /// The `invokespecial` of the constructor of `java/lang/Thread` that takes a target.
+    Wrap,
     /// The `invokevirtual` of `start()V`.
     Start,
     /// The `invokevirtual` of `join()V`.
     Join,
+    /// The `invokevirtual` of `isAlive()Z`.
+    Alive,
     /// The `invokestatic` of a method that takes so many ints, and returns an int or nothing.
     Call {
         method: MethodId,

@@ -23,7 +23,7 @@ use Rattle.class_profile.specs.declared.refusal.ClassKind.TheVariants.{FieldType
 use Rattle.opcodes.specs.declared.instruction.Instr.{Instr}
 use Rattle.opcodes.specs.declared.instruction.Instr.TheVariants.{IconstM1, Iconst0, Iconst1, Iconst2, Iconst3, Iconst4, Iconst5, Bipush, Sipush, Ldc, LdcW, Getstatic, Putstatic, Invokevirtual, Invokespecial, Invokestatic, New}
 use Rattle.reached_methods.specs.Reached.{is_run, run_in, run_of}
-use Rattle.resolution.specs.Resolution.{Resolved, Names, Unknown, Forbidden, Final, resolve, class_place, extends_thread, thread_at, thread_place, field_resolved, own_field, field_of_class, field_of, field_named, is_callable, method_resolved, own_method, method_of_class, method_of, static_call, is_bare, of_thread_class, of_thread, virtual_call, special_call, thread_made, class_made, constant_named, is_writable, method_spelling}
+use Rattle.resolution.specs.Resolution.{Resolved, Names, Unknown, Forbidden, Final, resolve, class_place, extends_thread, thread_at, thread_place, field_resolved, own_field, field_of_class, field_of, field_named, is_callable, method_resolved, own_method, method_of_class, method_of, static_call, is_called, is_bare, of_thread_class, of_thread, virtual_call, special_call, thread_made, class_made, constant_named, is_writable, method_spelling}
 use Rattle.resolution.specs.Places.{is_static_named}
 use Rattle.resolution.specs.Signatures.{signature_of}
 use Rattle.resolution.specs.declared.signature.Signature.{Signature}
@@ -203,7 +203,8 @@ module _ (classes : List ClassRecord) (profile : IsOfProfile classes) where
   virtual_known main (Some r) t same =
       choice (is_println r) target.Print t _ tt
       (choice (main && is_bare (codes "start") r && of_thread classes r) target.Start t _ tt
-      (choice (main && is_bare (codes "join") r && of_thread classes r) target.Join t _ tt (λ e. cc))) same
+      (choice (main && is_bare (codes "join") r && of_thread classes r) target.Join t _ tt
+      (choice (main && is_called (codes "isAlive") (codes "()Z") r && of_thread classes r) target.Alive t _ tt (λ e. cc)))) same
   virtual_known main None t same = cc
 
   special_known : (main : Bool) (o : Option Reference) (t : Target) → special_call classes main o ≡ Names t → IsKnown classes t

@@ -52,6 +52,7 @@ symbol_of classes number monitors pool made (target.New class_at) = Some (symbol
 symbol_of classes number monitors pool made target.Construct = Some symbol.Construct
 symbol_of classes number monitors pool made target.Start = Some symbol.Start
 symbol_of classes number monitors pool made target.Join = Some symbol.Join
+symbol_of classes number monitors pool made target.Alive = Some symbol.Alive
 symbol_of classes number monitors pool made (target.Call id) = option_map (called id) (signature_at classes id)
 symbol_of classes number monitors pool made target.Nothing = Some symbol.Nothing
 

@@ -90,6 +90,7 @@ impl Names<'_, '_> {
             Target::Construct => Ok(Symbol::Construct),
             Target::Start => Ok(Symbol::Start),
             Target::Join => Ok(Symbol::Join),
+            Target::Alive => Ok(Symbol::Alive),
             Target::Call(id) => call_of(self.classes, id),
             Target::Nothing => Ok(Symbol::Nothing),
         }

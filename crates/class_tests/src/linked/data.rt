@@ -11,7 +11,7 @@ enum Entry {
     Pair(u8, u8),
 }
 
-const POOL: [Entry; 85] = [
+const POOL: [Entry; 89] = [
     Entry::Text(b"M"),
     Entry::Class(1),
     Entry::Text(b"N"),
@@ -97,6 +97,10 @@ const POOL: [Entry; 85] = [
     Entry::Field(2, 67),
     Entry::Field(2, 68),
     Entry::Field(2, 69),
+    Entry::Text(b"isAlive"),
+    Entry::Text(b"()Z"),
+    Entry::Pair(86, 87),
+    Entry::Method(6, 88),
 ];
 
 /// The indices of a class and of its superclass, and whether it is an interface.
@@ -178,7 +182,7 @@ pub fn class_bytes(
     parts: &[Part],
 ) -> Result<Vec<u8>, AllocError> {
     let mut out = Vec::new(alloc);
-    out.extend_from_slice(&[0xca, 0xfe, 0xba, 0xbe, 0, 0, 0, 49, 0, 86])?;
+    out.extend_from_slice(&[0xca, 0xfe, 0xba, 0xbe, 0, 0, 0, 49, 0, 90])?;
     for item in &POOL {
         add_entry(&mut out, item)?;
     }

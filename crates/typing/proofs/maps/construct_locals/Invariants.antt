@@ -6,6 +6,6 @@ use Rattle.typing.proofs.maps.construct_locals.Given as goal
 
 abbrev pub invariant-loop-slot : goal.invariant-loop-slot
 invariant-loop-slot l = record {
-  done : (q : ℕ) → list_any (nat_eq q) (take l.slot-index l.listed) ≡ true → local_at l.locals q ≡ option_map (constructed_local l.thread) (local_at l.initial.locals q);
+  done : (q : ℕ) → list_any (nat_eq q) (take l.slot-index l.listed) ≡ true → local_at l.locals q ≡ option_map (constructed_local l.object) (local_at l.initial.locals q);
   rest : (q : ℕ) → list_any (nat_eq q) (take l.slot-index l.listed) ≡ false → local_at l.locals q ≡ local_at l.initial.locals q;
 }
