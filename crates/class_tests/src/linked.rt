@@ -5,6 +5,7 @@ ghost use Rattle.class_format.specs.ClassText.{IsValid};
 
 mod data;
 mod refused;
+mod targets;
 
 use class_format::{ClassRecord, read_class, valid_has_text};
 use class_profile::ClassKind;
@@ -15,6 +16,7 @@ use reached_methods::CodeKind;
 use refused::{CLASS_ROWS, CODE_ROWS};
 use std::alloc::{AllocError, Global};
 use std::test::Fail;
+use targets::TARGET_ROWS;
 use typing::TypeKind;
 use untyped_program::LimitKind;
 
@@ -97,6 +99,10 @@ enum Twist {
     Final,
     /// M has sixteen more fields.
     MoreFields,
+    /// N names java/lang/Runnable, and its methods are <init>()V and run()V; the stack of main is four high.
+    Target,
+    /// The same, but N names no interface.
+    NotRunnable,
 }
 
 /// The flags of M.a, the codes of M.main, M.a, M.b, N.a, N.b, T.<init> and T.run, and what comes of them.
@@ -560,6 +566,7 @@ const fn part(flags: u8, name: u8, descriptor: u8, code: &'static [u8]) -> Part 
         name,
         descriptor,
         code,
+        stack: 2,
     }
 }
 
@@ -582,16 +589,38 @@ fn first_class(alloc: Global, row: &Row) -> Result<Vec<u8>, AllocError> {
     } else {
         &[]
     };
+    let stack = if matches!(row.twist, Twist::Target | Twist::NotRunnable) {
+        4
+    } else {
+        2
+    };
     let parts = [
-        part(flags, 12, 13, main),
+        Part {
+            stack,
+            ..part(flags, 12, 13, main)
+        },
         part(row.flags, 45, 15, a),
         part(9, name, 15, b),
     ];
     class_bytes(alloc, Head::new(2, 8), Field::new(second, 27), more, &parts)
 }
 
+/// The class N as a target class, or nearly.
+fn target_class(alloc: Global, row: &Row) -> Result<Vec<u8>, AllocError> {
+    let [_, _, _, init, run, ..] = row.codes;
+    let head = Head {
+        runnable: matches!(row.twist, Twist::Target),
+        ..Head::new(4, 8)
+    };
+    let parts = [part(1, 16, 15, init), part(1, 14, 15, run)];
+    class_bytes(alloc, head, Field::new(8, 27), &[], &parts)
+}
+
 /// The class N.
 fn second_class(alloc: Global, row: &Row) -> Result<Vec<u8>, AllocError> {
+    if matches!(row.twist, Twist::Target | Twist::NotRunnable) {
+        return target_class(alloc, row);
+    }
     let [_, _, _, a, b, ..] = row.codes;
     let name = if let Twist::SameClass = row.twist {
         2
@@ -731,6 +760,14 @@ fn refuses_classes(rt: HostRuntime) -> Result<(), Fail> {
 #[test]
 fn refuses_codes(rt: HostRuntime) -> Result<(), Fail> {
     for (place, row) in CODE_ROWS.iter().enumerate() {
+        assert_eq!(rt; (place, is_wanted(rt.alloc(), row)?), (place, true));
+    }
+    Ok(())
+}
+
+#[test]
+fn links_targets(rt: HostRuntime) -> Result<(), Fail> {
+    for (place, row) in TARGET_ROWS.iter().enumerate() {
         assert_eq!(rt; (place, is_wanted(rt.alloc(), row)?), (place, true));
     }
     Ok(())

@@ -7,7 +7,7 @@ mod data;
 
 use class_format::{ClassRecord, read_class, valid_has_text};
 use data::SMALL;
-use opcodes::Instr;
+use opcodes::{Instr, Listed};
 use program::Name;
 use resolution::{ClassIndex, Misnamed, Signature, Target, resolve, signature_of};
 use std::alloc::Global;
@@ -254,7 +254,11 @@ fn instructions(rt: HostRuntime) -> Result<(), Fail> {
         } else {
             &classes[0].pool
         };
-        let found = resolve(rt.alloc(), &index, row.main, pool, &row.instr);
+        let listing = [Listed {
+            pc: 0,
+            instr: row.instr,
+        }];
+        let found = resolve(rt.alloc(), &index, row.main, pool, &listing, &listing[0]);
         assert!(rt; is_wanted(&found, &row.want), "row {at}");
     }
     Ok(())

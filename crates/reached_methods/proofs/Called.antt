@@ -16,15 +16,17 @@ use Rattle.class_format.specs.declared.record.PoolEntry.TheVariants as entry
 use Rattle.class_names.specs.Members.{final_flag, body_of}
 use Rattle.class_names.specs.Names.{Reference, field_at, method_at, has_flag, text_of, is_println, is_system_out}
 use Rattle.opcodes.specs.declared.instruction.Instr.{Instr}
+use Rattle.opcodes.specs.declared.listed.Listed.{Listed}
 use Rattle.opcodes.specs.declared.instruction.Instr.TheVariants.{Ldc, LdcW, Getstatic, Putstatic, Invokevirtual, Invokespecial, Invokestatic, New}
 use Rattle.program.proofs.Lists.{there_is}
 use Rattle.program.specs.declared.method.MethodId.{MethodId}
-use Rattle.resolution.specs.Resolution.{Resolved, Names, Unknown, Forbidden, Final, resolve, constant_named, field_named, field_of, field_of_class, own_field, field_resolved, static_call, method_of, method_of_class, own_method, method_resolved, is_callable, virtual_call, is_called, is_bare, is_writable, of_thread, of_thread_class, field_spelling, special_call, class_made, thread_made, class_place, thread_place, method_spelling}
+use Rattle.resolution.specs.Resolution.{Resolved, Names, Unknown, Forbidden, Final, resolve, constant_named, constructor_named, field_named, field_of, field_of_class, own_field, field_resolved, static_call, method_of, method_of_class, own_method, method_resolved, is_callable, virtual_call, is_called, is_bare, is_writable, of_thread, of_thread_class, field_spelling, special_call, class_made, class_place, method_spelling, resolve_at, made_by, object_made, thread_run}
+use Rattle.resolution.specs.Targets.{form_before, is_run}
 use Rattle.resolution.specs.Places.{is_static_named}
 use Rattle.resolution.specs.Signatures.{signature_of}
 use Rattle.resolution.specs.declared.signature.Signature.{Signature}
 use Rattle.resolution.specs.declared.target.Target.TheVariants as target
-use Rattle.reached_methods.specs.Reached.{IsRunOf, is_method, is_run, Leads, calls, makes}
+use Rattle.reached_methods.specs.Reached.{IsRunOf, is_method, Leads, calls, makes}
 use Rattle.reached_methods.specs.Surveys.{HasCode}
 use Rattle.reached_methods.proofs.Codes.{coded}
 
@@ -93,21 +95,39 @@ objects classes main (Some r) id P e =
     (main && is_called (codes "isAlive") (codes "()Z") r && of_thread classes r) (method_spelling r) id P e
 objects classes main None id P e = none_called id P e
 
-constructors : (classes : List ClassRecord) (main : Bool) (o : Option Reference) (id : MethodId) (P : Type 0) → call_in (special_call classes main o) ≡ Some id → P
-constructors classes main (Some r) id P e =
-    either (main && is_bare (codes "<init>") r && of_thread_class classes r) (Names target.Construct) (Forbidden (method_spelling r)) id P e (none_called id P) (none_called id P)
-constructors classes main None id P e = none_called id P e
+constructors_by : (a b c : Bool) (name : List ℕ) (id : MethodId) (P : Type 0) →
+    call_in (if a then Names target.Construct else if b then Names target.ConstructTarget else if c then Names target.Wrap else Forbidden name) ≡ Some id → P
+constructors_by true b c name id P e = none_called id P e
+constructors_by false true c name id P e = none_called id P e
+constructors_by false false true name id P e = none_called id P e
+constructors_by false false false name id P e = none_called id P e
 
-threads_made : (name : List ℕ) (main : Bool) (o : Option ℕ) (id : MethodId) (P : Type 0) → call_in (thread_made name main o) ≡ Some id → P
-threads_made name true (Some place) id P e = none_called id P e
-threads_made name true None id P e = none_called id P e
-threads_made name false (Some place) id P e = none_called id P e
-threads_made name false None id P e = none_called id P e
+constructors_in : (classes : List ClassRecord) (main : Bool) (pool : List PoolEntry) (listing : List Listed) (pc : ℕ) (r : Reference) (id : MethodId) (P : Type 0) →
+    call_in (constructor_named classes main pool listing pc r) ≡ Some id → P
+constructors_in classes true pool listing pc r id P e =
+    constructors_by (is_bare (codes "<init>") r && of_thread_class classes r) (is_some (form_before classes pool listing 8 pc)) (is_some (form_before classes pool listing 11 pc)) (method_spelling r) id P e
+constructors_in classes false pool listing pc r id P e = none_called id P e
 
-classes_made : (classes : List ClassRecord) (main : Bool) (pool : List PoolEntry) (o : Option PoolEntry) (id : MethodId) (P : Type 0) → call_in (class_made classes main pool o) ≡ Some id → P
-classes_made classes main pool (Some (entry.Class name)) id P e = threads_made (text_of pool name) main (thread_place classes (text_of pool name)) id P e
-classes_made classes main pool (Some _) id P e = none_called id P e
-classes_made classes main pool None id P e = none_called id P e
+constructors : (classes : List ClassRecord) (main : Bool) (pool : List PoolEntry) (listing : List Listed) (pc : ℕ) (o : Option Reference) (id : MethodId) (P : Type 0) →
+    call_in (special_call classes main pool listing pc o) ≡ Some id → P
+constructors classes main pool listing pc (Some r) id P e = constructors_in classes main pool listing pc r id P e
+constructors classes main pool listing pc None id P e = none_called id P e
+
+threads_made : (name : List ℕ) (o : Option ℕ) (in_form : Bool) (id : MethodId) (P : Type 0) → call_in (made_by name o in_form) ≡ Some id → P
+threads_made name (Some place) in_form id P e = none_called id P e
+threads_made name None true id P e = none_called id P e
+threads_made name None false id P e = none_called id P e
+
+objects_made : (classes : List ClassRecord) (main : Bool) (pool : List PoolEntry) (listing : List Listed) (pc : ℕ) (name : List ℕ) (id : MethodId) (P : Type 0) →
+    call_in (object_made classes main pool listing pc name) ≡ Some id → P
+objects_made classes true pool listing pc name id P e = threads_made name (thread_run classes pool listing pc name) (is_some (form_before classes pool listing 4 pc)) id P e
+objects_made classes false pool listing pc name id P e = none_called id P e
+
+classes_made : (classes : List ClassRecord) (main : Bool) (pool : List PoolEntry) (listing : List Listed) (pc : ℕ) (o : Option PoolEntry) (id : MethodId) (P : Type 0) →
+    call_in (class_made classes main pool listing pc o) ≡ Some id → P
+classes_made classes main pool listing pc (Some (entry.Class name)) id P e = objects_made classes main pool listing pc (text_of pool name) id P e
+classes_made classes main pool listing pc (Some _) id P e = none_called id P e
+classes_made classes main pool listing pc None id P e = none_called id P e
 
 some_body : (o : Option CodeBody) → is_some o ≡ true → (body : CodeBody) × (o ≡ Some body)
 some_body (Some body) e = (body, refl)
@@ -148,19 +168,19 @@ static_code : (classes : List ClassRecord) (o : Option Reference) (id : MethodId
 static_code classes (Some r) id e = place_code classes r (class_place classes r.class) id e
 static_code classes None id e = none_called id (HasCode classes id) e
 
-call_code_in : (classes : List ClassRecord) (main : Bool) (pool : List PoolEntry) (instr : Instr) (id : MethodId) → call_in (resolve classes main pool instr) ≡ Some id → HasCode classes id
-call_code_in classes main pool (Ldc index) id e = constants pool index (entry_at pool index) id (HasCode classes id) e
-call_code_in classes main pool (LdcW index) id e = constants pool index (entry_at pool index) id (HasCode classes id) e
-call_code_in classes main pool (Getstatic index) id e = fields classes true (field_at pool index) id (HasCode classes id) e
-call_code_in classes main pool (Putstatic index) id e = fields classes false (field_at pool index) id (HasCode classes id) e
-call_code_in classes main pool (Invokevirtual index) id e = objects classes main (method_at pool index) id (HasCode classes id) e
-call_code_in classes main pool (Invokespecial index) id e = constructors classes main (method_at pool index) id (HasCode classes id) e
-call_code_in classes main pool (Invokestatic index) id e = static_code classes (method_at pool index) id e
-call_code_in classes main pool (New index) id e = classes_made classes main pool (entry_at pool index) id (HasCode classes id) e
-call_code_in classes main pool _ id e = none_called id (HasCode classes id) e
+call_code_in : (classes : List ClassRecord) (main : Bool) (pool : List PoolEntry) (listing : List Listed) (pc : ℕ) (instr : Instr) (id : MethodId) → call_in (resolve_at classes main pool listing pc instr) ≡ Some id → HasCode classes id
+call_code_in classes main pool listing pc (Ldc index) id e = constants pool index (entry_at pool index) id (HasCode classes id) e
+call_code_in classes main pool listing pc (LdcW index) id e = constants pool index (entry_at pool index) id (HasCode classes id) e
+call_code_in classes main pool listing pc (Getstatic index) id e = fields classes true (field_at pool index) id (HasCode classes id) e
+call_code_in classes main pool listing pc (Putstatic index) id e = fields classes false (field_at pool index) id (HasCode classes id) e
+call_code_in classes main pool listing pc (Invokevirtual index) id e = objects classes main (method_at pool index) id (HasCode classes id) e
+call_code_in classes main pool listing pc (Invokespecial index) id e = constructors classes main pool listing pc (method_at pool index) id (HasCode classes id) e
+call_code_in classes main pool listing pc (Invokestatic index) id e = static_code classes (method_at pool index) id e
+call_code_in classes main pool listing pc (New index) id e = classes_made classes main pool listing pc (entry_at pool index) id (HasCode classes id) e
+call_code_in classes main pool listing pc _ id e = none_called id (HasCode classes id) e
 
-pub call_code : (classes : List ClassRecord) (main : Bool) (pool : List PoolEntry) (instr : Instr) (id : MethodId) → resolve classes main pool instr ≡ Names (target.Call id) → HasCode classes id
-call_code classes main pool instr id e = call_code_in classes main pool instr id (ap call_in e)
+pub call_code : (classes : List ClassRecord) (main : Bool) (pool : List PoolEntry) (listing : List Listed) (item : Listed) (id : MethodId) → resolve classes main pool listing item ≡ Names (target.Call id) → HasCode classes id
+call_code classes main pool listing item id e = call_code_in classes main pool listing item.pc item.instr id (ap call_in e)
 
 -- ---- Threads
 
@@ -184,7 +204,7 @@ run_code classes class_at id run =
     code_there classes id run.class member.0 (subst P (sym run.same_class) run.class_there) member.1 (coded member.0.attributes (last_true _ _ test))
 
 leads_code : (classes : List ClassRecord) (main a b : MethodId) → Leads classes main a b → HasCode classes b
-leads_code classes main a b (calls c) = call_code classes (is_method a main) c.call.class.pool c.instr b c.call.resolved
+leads_code classes main a b (calls c) = call_code classes (is_method a main) c.call.class.pool c.call.listing (record { pc = c.pc; instr = c.instr }) b c.call.resolved
 leads_code classes main a b (makes same m) = run_code classes m.class_at b m.runs
 
 -- what is led to from a method with code has code

@@ -16,7 +16,8 @@ use Rattle.class_format.specs.declared.record.ClassRecord.{ClassRecord}
 use Rattle.program.specs.declared.method.MethodId.{MethodId}
 use Rattle.reached_methods.specs.Exploring.{with_method, Follows, LeadsTo, OneLeadsTo}
 use Rattle.resolution.specs.declared.target.Target.{Target}
-use Rattle.reached_methods.specs.Reached.{AreRuns, IsRunOf, is_run, is_method, run_in, run_of}
+use Rattle.resolution.specs.Targets.{is_run}
+use Rattle.reached_methods.specs.Reached.{AreRuns, IsRunOf, is_method, run_in, run_of}
 
 -- ---- Methods
 

@@ -16,6 +16,9 @@ use Rattle.reached_methods.specs.declared.refusal.CodeKind.{CodeKind}
 use Rattle.reached_methods.specs.declared.refusal.CodeKind.TheVariants.{Opcode, CutInstruction, JumpTarget, UnknownName, ForbiddenCall, FinalAccess, Recursion, ThreadInLoop}
 use Rattle.reached_methods.specs.declared.refusal.Detail.{Detail}
 use Rattle.reached_methods.specs.declared.refusal.Detail.TheVariants.{Nothing, Number, Name}
+use Rattle.opcodes.specs.Reached.{IsListingOf}
+use Rattle.opcodes.specs.declared.listed.Listed.{Listed}
+use Rattle.opcodes.proofs.SameListing.{one_listing}
 use Rattle.reached_methods.proofs.Codes.{same_class, same_code}
 
 -- ---- Kinds
@@ -39,7 +42,9 @@ one_name classes main id pc i j r s a b =
     let class = same_class classes id a.class b.class a.body b.body a.code b.code in
     let body = same_code classes id a.class b.class a.body b.body a.code b.code in
     let instr = decodes_once b.body.code pc i j (subst (λ (c : CodeBody). Decodes c.code pc i) body a.decodes) b.decodes in
-    sym a.resolved ∙ ap₂ (λ (c : ClassRecord) (k : Instr). resolve classes (is_method id main) c.pool k) class instr ∙ b.resolved
+    let listing : a.listing ≡ b.listing = one_listing b.body.code a.listing b.listing (subst (λ (c : CodeBody). IsListingOf c.code a.listing) body a.is_listing) b.is_listing in
+    sym a.resolved ∙ ap₂ (λ (c : ClassRecord) (k : Instr). resolve classes (is_method id main) c.pool a.listing (record { pc = pc; instr = k })) class instr
+    ∙ ap (λ (xs : List Listed). resolve classes (is_method id main) b.class.pool xs (record { pc = pc; instr = j })) listing ∙ b.resolved
 
 one_number : (classes : List ClassRecord) (id : MethodId) (pc : ℕ) (c d : List ℕ) (m n : ℕ) → IsPlaceIn classes id pc c → IsPlaceIn classes id pc d → IsUnknown c pc m → IsUnknown d pc n → m ≡ n
 one_number classes id pc c d m n p q u v =

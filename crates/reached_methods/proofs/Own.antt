@@ -1,5 +1,5 @@
 -- The faults that a method has without regard to other methods are those of its code, of its names and of its loops.
-use Rattle.std.proofs.Common.{◌≡◌, ◌≢◌, ◌⊎◌, inl, inr, ℕ, Bool, true, false, List, Option, map, refl, sym, ap, subst, ◌∙◌, arith}
+use Rattle.std.proofs.Common.{◌≡◌, ◌≢◌, ◌⊎◌, inl, inr, ℕ, Bool, true, false, List, Option, map, refl, sym, ap, ap₂, subst, ◌∙◌, arith}
 use Rattle.std.specs.Prelude.{Any}
 use Rattle.class_format.specs.declared.record.ClassRecord.{ClassRecord}
 use Rattle.class_format.specs.declared.record.CodeBody.{CodeBody}
@@ -22,13 +22,14 @@ use Rattle.reached_methods.specs.declared.refusal.CodeKind.{CodeKind}
 use Rattle.reached_methods.specs.declared.refusal.CodeKind.TheVariants.{ThreadInLoop}
 use Rattle.reached_methods.specs.declared.refusal.Detail.{Detail}
 use Rattle.reached_methods.specs.declared.refusal.Detail.TheVariants.{Nothing}
+use Rattle.opcodes.proofs.SameListing.{one_listing}
 use Rattle.reached_methods.proofs.Codes.{same_class, same_code}
 use Rattle.reached_methods.proofs.Leading.{is_itself, same_method}
 use Rattle.reached_methods.proofs.FirstFaults.{merged}
 
 -- a listed instruction is one of the method
 pub listed_instruction : (classes : List ClassRecord) (main id : MethodId) (class : ClassRecord) (body : CodeBody) (listing : List Listed) (pc : ℕ) (instr : Instr) (names : Resolved) →
-    HasCodeAt classes id class body → IsListingOf body.code listing → StandsAt listing pc instr → resolve classes (is_method id main) class.pool instr ≡ names →
+    HasCodeAt classes id class body → IsListingOf body.code listing → StandsAt listing pc instr → resolve classes (is_method id main) class.pool listing (record { pc = pc; instr = instr }) ≡ names →
     IsInstructionAt classes main id pc instr names
 listed_instruction classes main id class body listing pc instr names code of there e = record {
   class = class;
@@ -36,6 +37,8 @@ listed_instruction classes main id class body listing pc instr names code of the
   code = code;
   reached = of.reached pc instr there;
   decodes = of.decodes pc instr there;
+  listing = listing;
+  is_listing = of;
   resolved = e;
 }
 
@@ -49,10 +52,12 @@ instruction_listed classes main id class body listing pc instr names code of i =
     of.whole pc instr (subst P same i.reached) (subst Q same i.decodes)
 
 -- and names what it names by the pool of the method's class
-pub instruction_names : (classes : List ClassRecord) (main id : MethodId) (class : ClassRecord) (body : CodeBody) (pc : ℕ) (instr : Instr) (names : Resolved) →
-    HasCodeAt classes id class body → IsInstructionAt classes main id pc instr names → resolve classes (is_method id main) class.pool instr ≡ names
-instruction_names classes main id class body pc instr names code i =
-    ap (λ (c : ClassRecord). resolve classes (is_method id main) c.pool instr) (same_class classes id class i.class body i.body code i.code) ∙ i.resolved
+pub instruction_names : (classes : List ClassRecord) (main id : MethodId) (class : ClassRecord) (body : CodeBody) (listing : List Listed) (pc : ℕ) (instr : Instr) (names : Resolved) →
+    HasCodeAt classes id class body → IsListingOf body.code listing → IsInstructionAt classes main id pc instr names → resolve classes (is_method id main) class.pool listing (record { pc = pc; instr = instr }) ≡ names
+instruction_names classes main id class body listing pc instr names code of i =
+    let same : listing ≡ i.listing = one_listing body.code listing i.listing of
+    (subst (λ (b : CodeBody). IsListingOf b.code i.listing) (same_code classes id i.class class i.body body i.code code) i.is_listing) in
+    ap₂ (λ (c : ClassRecord) (xs : List Listed). resolve classes (is_method id main) c.pool xs (record { pc = pc; instr = instr })) (same_class classes id class i.class body i.body code i.code) same ∙ i.resolved
 
 place_reached : (classes : List ClassRecord) (id : MethodId) (class : ClassRecord) (body : CodeBody) (pc : ℕ) (code : List ℕ) → HasCodeAt classes id class body →
     IsPlaceIn classes id pc code → code ≡ body.code
@@ -102,21 +107,21 @@ name_own_at classes main id pc kind detail instr Final i f = record {
 }
 
 name_own : (classes : List ClassRecord) (main id : MethodId) (class : ClassRecord) (body : CodeBody) (listing : List Listed) (pc : ℕ) (kind : CodeKind) (detail : Detail) →
-    HasCodeAt classes id class body → IsListingOf body.code listing → HasNameFault classes (is_method id main) class.pool listing pc kind detail →
+    HasCodeAt classes id class body → IsListingOf body.code listing → HasNameFault classes (is_method id main) class.pool listing listing pc kind detail →
     HasOwnFault classes main id pc kind detail
 name_own classes main id class body listing pc kind detail here of f =
-    name_own_at classes main id pc kind detail f.instr (resolve classes (is_method id main) class.pool f.instr)
+    name_own_at classes main id pc kind detail f.instr (resolve classes (is_method id main) class.pool listing (record { pc = pc; instr = f.instr }))
     (listed_instruction classes main id class body listing pc f.instr _ here of f.there refl) f.wrong
 
 -- an instruction that is refused for its name is listed so
 named_fault : (classes : List ClassRecord) (main id : MethodId) (class : ClassRecord) (body : CodeBody) (listing : List Listed) (pc : ℕ) (kind : CodeKind) (detail : Detail)
     (instr : Instr) (r : Resolved) → HasCodeAt classes id class body → IsListingOf body.code listing → IsInstructionAt classes main id pc instr r → IsNameFault r kind detail →
-    HasNameFault classes (is_method id main) class.pool listing pc kind detail
+    HasNameFault classes (is_method id main) class.pool listing listing pc kind detail
 named_fault classes main id class body listing pc kind detail instr r here of i f = record {
   instr = instr;
   there = instruction_listed classes main id class body listing pc instr r here of i;
   wrong = (let P : Resolved → Type 0 = λ n. IsNameFault n kind detail in
-      subst P (sym (instruction_names classes main id class body pc instr r here i)) f);
+      subst P (sym (instruction_names classes main id class body listing pc instr r here of i)) f);
 }
 
 -- ---- Loops
@@ -130,11 +135,11 @@ across : (classes : List ClassRecord) (main id : MethodId) (class : ClassRecord)
 across classes main id class body listing pc here of same a =
     let item = a.1 in
     let jump = a.4 in
-    let P : MethodId → Type 0 = λ m. IsInstructionAt classes main m item.pc item.instr (resolve classes (is_method id main) class.pool item.instr) in
+    let P : MethodId → Type 0 = λ m. IsInstructionAt classes main m item.pc item.instr (resolve classes (is_method id main) class.pool listing item) in
     record {
       from = item.pc;
       instr = item.instr;
-      names = resolve classes (is_method id main) class.pool item.instr;
+      names = resolve classes (is_method id main) class.pool listing item;
       reached = subst P same (listed_instruction classes main id class body listing item.pc item.instr _ here of (a.0, a.2, a.3) refl);
       distance = jump.distance;
       jumps = jump.jumps;
@@ -146,9 +151,9 @@ loop_own : (classes : List ClassRecord) (main id : MethodId) (class : ClassRecor
     HasCodeAt classes id class body → IsListingOf body.code listing → id ≡ main → HasLoopFault listing pc kind detail → HasOwnFault classes main id pc kind detail
 loop_own classes main id class body listing pc kind detail here of same f =
     let index = made f.instr f.looped.makes in
-    let P : Instr → Type 0 = λ i. IsInstructionAt classes main id pc i (resolve classes (is_method id main) class.pool f.instr) in
+    let P : Instr → Type 0 = λ i. IsInstructionAt classes main id pc i (resolve classes (is_method id main) class.pool listing (record { pc = pc; instr = f.instr })) in
     record {
-      fault = in_loop index.0 (resolve classes (is_method id main) class.pool f.instr) same
+      fault = in_loop index.0 (resolve classes (is_method id main) class.pool listing (record { pc = pc; instr = f.instr })) same
           (subst P index.1 (listed_instruction classes main id class body listing pc f.instr _ here of f.there refl))
           (across classes main id class body listing pc here of same f.looped.loop) f.kind_is f.detail_is;
       own = not_15 kind 16 (ap rank f.kind_is) (λ e. omega (arith, e));
@@ -186,7 +191,7 @@ looped classes main id class body listing pc index kind detail names here of sam
 
 own_split : (classes : List ClassRecord) (main id : MethodId) (class : ClassRecord) (body : CodeBody) (listing : List Listed) (pc : ℕ) (kind : CodeKind) (detail : Detail) →
     HasCodeAt classes id class body → IsListingOf body.code listing → rank kind ≢ 15 → HasCodeFault classes main id pc kind detail →
-    (HasReadFault body.code pc kind detail ⊎ HasNameFault classes (is_method id main) class.pool listing pc kind detail) ⊎ HasLoopFaultIn (is_method id main) listing pc kind detail
+    (HasReadFault body.code pc kind detail ⊎ HasNameFault classes (is_method id main) class.pool listing listing pc kind detail) ⊎ HasLoopFaultIn (is_method id main) listing pc kind detail
 own_split classes main id class body listing pc kind detail here of other (unknown_number code n p u k d) =
     let e = place_reached classes id class body pc code here p in
     inl (inl (subst (λ (c : List ℕ). HasReadFault c pc kind detail) e (own.unknown_number n p.reached u k d)))
@@ -209,13 +214,13 @@ own_split classes main id class body listing pc kind detail here of other (in_lo
 -- the survey of a method
 pub surveyed : (classes : List ClassRecord) (main id : MethodId) (class : ClassRecord) (body : CodeBody) (listing : List Listed) (targets : List Target) (read name loop : Option Fault) →
     HasCodeAt classes id class body → IsListingOf body.code listing →
-    targets ≡ map (λ item. target_of (resolve classes (is_method id main) class.pool item.instr)) listing →
-    IsFirstOrNone (HasReadFault body.code) read → IsFirstOrNone (HasNameFault classes (is_method id main) class.pool listing) name →
+    targets ≡ map (λ item. target_of (resolve classes (is_method id main) class.pool listing item)) listing →
+    IsFirstOrNone (HasReadFault body.code) read → IsFirstOrNone (HasNameFault classes (is_method id main) class.pool listing listing) name →
     IsFirstOrNone (HasLoopFaultIn (is_method id main) listing) loop →
     IsSurveyed classes main (record { method = record { id = id; listing = listing; targets = targets }; fault = earlier_of (earlier_of read name) loop })
 surveyed classes main id class body listing targets read name loop here of e first_read first_name first_loop =
     let Code = HasReadFault body.code in
-    let Named = HasNameFault classes (is_method id main) class.pool listing in
+    let Named = HasNameFault classes (is_method id main) class.pool listing listing in
     let Both : ℕ → CodeKind → Detail → Type 0 = λ pc kind detail. Code pc kind detail ⊎ Named pc kind detail in
     let Looped = HasLoopFaultIn (is_method id main) listing in
     record {
@@ -235,18 +240,18 @@ pub surveyed_so : (classes : List ClassRecord) (main id : MethodId) (class : Cla
     (bytes : List ℕ) (indexed : List ClassRecord) (in_main : Bool) (named_listing looped_listing : List Listed) (first fault : Option Fault) →
     bytes ≡ body.code → indexed ≡ classes → in_main ≡ is_method id main → named_listing ≡ listing → looped_listing ≡ listing →
     HasCodeAt classes id class body → IsListingOf bytes listing →
-    targets ≡ map (λ item. target_of (resolve indexed in_main class.pool item.instr)) named_listing →
-    IsFirstOrNone (HasReadFault bytes) read → IsFirstOrNone (HasNameFault indexed in_main class.pool named_listing) name →
+    targets ≡ map (λ item. target_of (resolve indexed in_main class.pool named_listing item)) named_listing →
+    IsFirstOrNone (HasReadFault bytes) read → IsFirstOrNone (HasNameFault indexed in_main class.pool named_listing named_listing) name →
     IsFirstOrNone (HasLoopFaultIn in_main looped_listing) loop → first ≡ earlier_of read name → fault ≡ earlier_of first loop →
     IsSurveyed classes main (record { method = record { id = id; listing = listing; targets = targets }; fault = fault })
 surveyed_so classes main id class body listing targets read name loop bytes indexed in_main named_listing looped_listing first fault
     same_bytes same_classes same_main same_named same_looped here of e first_read first_name first_loop e_first e_fault =
-    let T : List ClassRecord → Bool → List Listed → List Target = λ cs m xs. map (λ (item : Listed). target_of (resolve cs m class.pool item.instr)) xs in
+    let T : List ClassRecord → Bool → List Listed → List Target = λ cs m xs. map (λ (item : Listed). target_of (resolve cs m class.pool xs item)) xs in
     let L : List ℕ → Type 0 = λ b. IsListingOf b listing in
     let R : List ℕ → Type 0 = λ b. IsFirstOrNone (HasReadFault b) read in
-    let N : List ClassRecord → Type 0 = λ cs. IsFirstOrNone (HasNameFault cs in_main class.pool named_listing) name in
-    let M : Bool → Type 0 = λ m. IsFirstOrNone (HasNameFault classes m class.pool named_listing) name in
-    let O : List Listed → Type 0 = λ xs. IsFirstOrNone (HasNameFault classes (is_method id main) class.pool xs) name in
+    let N : List ClassRecord → Type 0 = λ cs. IsFirstOrNone (HasNameFault cs in_main class.pool named_listing named_listing) name in
+    let M : Bool → Type 0 = λ m. IsFirstOrNone (HasNameFault classes m class.pool named_listing named_listing) name in
+    let O : List Listed → Type 0 = λ xs. IsFirstOrNone (HasNameFault classes (is_method id main) class.pool xs xs) name in
     let P : Bool → Type 0 = λ m. IsFirstOrNone (HasLoopFaultIn m looped_listing) loop in
     let Q : List Listed → Type 0 = λ xs. IsFirstOrNone (HasLoopFaultIn (is_method id main) xs) loop in
     let F : Option Fault → Type 0 = λ f. IsSurveyed classes main (record { method = record { id = id; listing = listing; targets = targets }; fault = f }) in

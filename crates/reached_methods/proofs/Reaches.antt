@@ -89,7 +89,7 @@ closed_surveys classes main surveys are = record {
 
 all_targets_of : (classes : List ClassRecord) (main : MethodId) (s : Surveyed) → IsSurveyed classes main s → HasAllTargets s
 all_targets_of classes main s surveyed = record {
-  same_length = ap length surveyed.survey.targets ∙ length-map s.method.listing (λ item. target_of (resolve classes (is_method s.method.id main) surveyed.survey.class.pool item.instr));
+  same_length = ap length surveyed.survey.targets ∙ length-map s.method.listing (λ item. target_of (resolve classes (is_method s.method.id main) surveyed.survey.class.pool s.method.listing item));
 }
 
 pub all_targets : (classes : List ClassRecord) (main : MethodId) (surveys : List Surveyed) → AreSurveys classes main surveys → All HasAllTargets surveys
@@ -103,7 +103,7 @@ return_is : (classes : List ClassRecord) (main : MethodId) (surveys : List Surve
 return_is classes main surveys s are surveyed pc kind detail h =
     let m = s.method in
     let v = surveyed.survey in
-    let g : Listed → Target = λ item. target_of (resolve classes (is_method m.id main) v.class.pool item.instr) in
+    let g : Listed → Target = λ item. target_of (resolve classes (is_method m.id main) v.class.pool m.listing item) in
     let P : List Target → Type 0 = λ ts. slice_get ts h.at ≡ Some (target.Call h.called) in
     let named : g h.item ≡ target.Call h.called = same_Some _ _ (sym (ap (option_map g) h.listed) ∙ sym (slice_get-map g m.listing h.at) ∙ subst P v.targets h.named) in
     let Q : ℕ → Type 0 = λ n. IsInstructionAt classes main m.id n h.item.instr (Names (target.Call h.called)) in
@@ -117,10 +117,10 @@ is_return : (classes : List ClassRecord) (main : MethodId) (surveys : List Surve
 is_return classes main surveys s are surveyed reached pc kind detail instr called i w k d =
     let m = s.method in
     let v = surveyed.survey in
-    let g : Listed → Target = λ item. target_of (resolve classes (is_method m.id main) v.class.pool item.instr) in
+    let g : Listed → Target = λ item. target_of (resolve classes (is_method m.id main) v.class.pool m.listing item) in
     let item : Listed = record { pc = pc; instr = instr } in
     let there = place_of m.listing item (instruction_listed classes main m.id v.class v.body m.listing pc instr (Names (target.Call called)) v.code v.listing i) in
-    let named : g item ≡ target.Call called = ap target_of (instruction_names classes main m.id v.class v.body pc instr (Names (target.Call called)) v.code i) in
+    let named : g item ≡ target.Call called = ap target_of (instruction_names classes main m.id v.class v.body m.listing pc instr (Names (target.Call called)) v.code v.listing i) in
     let P : List Target → Type 0 = λ ts. slice_get ts there.0 ≡ Some (target.Call called) in
     let called_reached = walked (Leads classes main) main m.id called reached (calls (record { pc = pc; instr = instr; call = i })) in
     record {
@@ -262,7 +262,7 @@ reached_method classes main surveys s are there clean =
     let v = surveyed.survey in
     let m = s.method in
     let none = clean_none classes main surveys s are there clean in
-    let f : Listed → Resolved = λ item. resolve classes (is_method m.id main) v.class.pool item.instr in
+    let f : Listed → Resolved = λ item. resolve classes (is_method m.id main) v.class.pool m.listing item in
     record {
       reached = All-contains (λ x. IsReached classes main x.method.id) surveys s are.reached there;
       class = v.class;

@@ -32,10 +32,10 @@ use Rattle.reached_methods.proofs.Own.{listed_instruction, instruction_listed, i
 pub target_listed : (classes : List ClassRecord) (main : MethodId) (m : ReachedMethod) → IsSurvey classes main m → (pc : ℕ) (instr : Instr) (t : Target) →
     IsInstructionAt classes main m.id pc instr (Names t) → Contains m.targets t
 target_listed classes main m s pc instr t i =
-    let g : Listed → Target = λ item. target_of (resolve classes (is_method m.id main) s.class.pool item.instr) in
+    let g : Listed → Target = λ item. target_of (resolve classes (is_method m.id main) s.class.pool m.listing item) in
     let item : Listed = record { pc = pc; instr = instr } in
     let there = instruction_listed classes main m.id s.class s.body m.listing pc instr (Names t) s.code s.listing i in
-    let names = instruction_names classes main m.id s.class s.body pc instr (Names t) s.code i in
+    let names = instruction_names classes main m.id s.class s.body m.listing pc instr (Names t) s.code s.listing i in
     let named : g item ≡ t = ap target_of names in
     subst (λ (ts : List Target). Contains ts t) (sym s.targets) (subst (Contains (map g m.listing)) named (contains_mapped g m.listing item there))
 
@@ -54,9 +54,9 @@ new_names Final class_at e = absurd (cc)
 
 -- the instruction that names what the survey has
 pub listed_target : (classes : List ClassRecord) (main : MethodId) (m : ReachedMethod) (s : IsSurvey classes main m) (t : Target) → Contains m.targets t →
-    (item : Listed) × Contains m.listing item × (target_of (resolve classes (is_method m.id main) s.class.pool item.instr) ≡ t)
+    (item : Listed) × Contains m.listing item × (target_of (resolve classes (is_method m.id main) s.class.pool m.listing item) ≡ t)
 listed_target classes main m s t there =
-    contains_map (λ item. target_of (resolve classes (is_method m.id main) s.class.pool item.instr)) m.listing t (subst (λ (ts : List Target). Contains ts t) s.targets there)
+    contains_map (λ item. target_of (resolve classes (is_method m.id main) s.class.pool m.listing item)) m.listing t (subst (λ (ts : List Target). Contains ts t) s.targets there)
 
 pub leads_out : (classes : List ClassRecord) (main : MethodId) (m : ReachedMethod) → IsSurvey classes main m → (b : MethodId) → Leads classes main m.id b →
     OneLeadsTo classes (is_method m.id main) m.targets b
@@ -72,7 +72,7 @@ leads_out classes main m s b (makes same made) =
     }
 
 leads_by : (classes : List ClassRecord) (main : MethodId) (m : ReachedMethod) (s : IsSurvey classes main m) (b : MethodId) (t : Target) (in_main : Bool) → is_method m.id main ≡ in_main →
-    (item : Listed) → Contains m.listing item → target_of (resolve classes (is_method m.id main) s.class.pool item.instr) ≡ t → LeadsTo classes in_main t b → Leads classes main m.id b
+    (item : Listed) → Contains m.listing item → target_of (resolve classes (is_method m.id main) s.class.pool m.listing item) ≡ t → LeadsTo classes in_main t b → Leads classes main m.id b
 leads_by classes main m s b (target.Call called) in_main e item there names l =
     calls (record {
       pc = item.pc;

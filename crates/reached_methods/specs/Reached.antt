@@ -1,21 +1,18 @@
 -- The methods that are reached from main (docs/PROFILE.md, "Reached methods").
-use Rattle.std.specs.Prelude.{◌≡◌, ◌<◌, ◌&&◌, ◌⊎◌, ℕ, Bool, not, List, All, AllPairs, Contains, Option, Some, None, codes, map, nat_eq, position, slice_get, slice_index_or}
-use Rattle.std.specs.List.{list_any}
+use Rattle.std.specs.Prelude.{◌≡◌, ◌<◌, ◌&&◌, ◌⊎◌, ℕ, Bool, List, All, AllPairs, Contains, Option, Some, None, map, nat_eq, position, slice_get, slice_index_or}
 use Rattle.std.specs.Option.{option_map}
 use Rattle.relations.specs.Path.{Walk}
-use Rattle.class_format.specs.ClassText.{is_code}
 use Rattle.class_format.specs.declared.record.ClassRecord.{ClassRecord}
 use Rattle.class_format.specs.declared.record.CodeBody.{CodeBody}
 use Rattle.class_format.specs.declared.record.Member.{Member}
-use Rattle.class_format.specs.declared.record.PoolEntry.{PoolEntry}
-use Rattle.class_names.specs.Members.{static_flag, synchronized_flag, member_name, member_descriptor, body_of}
-use Rattle.class_names.specs.Names.{has_flag, same_text}
+use Rattle.class_names.specs.Members.{body_of}
 use Rattle.opcodes.specs.Instructions.{Decodes}
 use Rattle.opcodes.specs.Reached.{Reached, IsListingOf}
 use Rattle.opcodes.specs.declared.instruction.Instr.{Instr}
 use Rattle.opcodes.specs.declared.listed.Listed.{Listed}
 use Rattle.program.specs.declared.method.MethodId.{MethodId}
 use Rattle.resolution.specs.Resolution.{Resolved, Names, resolve}
+use Rattle.resolution.specs.Targets.{is_run}
 use Rattle.resolution.specs.declared.target.Target.TheVariants as target
 use Rattle.reached_methods.specs.declared.method.ReachedMethod.{ReachedMethod}
 
@@ -42,14 +39,16 @@ IsBefore a b = (a.class < b.class) ⊎ ((a.class ≡ b.class) × (a.method < b.m
 
 -- ---- Instructions
 
--- a reached instruction of the method, and what it names
+-- a reached instruction of the method, and what it names among all of them
 pub record IsInstructionAt (classes : List ClassRecord) (main id : MethodId) (pc : ℕ) (instr : Instr) (names : Resolved) : Type 0 where
   pub class : ClassRecord
   pub body : CodeBody
   pub code : HasCodeAt classes id class body
   pub reached : Reached body.code pc
   pub decodes : Decodes body.code pc instr
-  pub resolved : resolve classes (is_method id main) class.pool instr ≡ names
+  pub listing : List Listed
+  pub is_listing : IsListingOf body.code listing
+  pub resolved : resolve classes (is_method id main) class.pool listing (record { pc = pc; instr = instr }) ≡ names
 
 -- ---- What leads from one method to another
 
@@ -58,12 +57,6 @@ pub record Calls (classes : List ClassRecord) (main caller called : MethodId) : 
   pub pc : ℕ
   pub instr : Instr
   pub call : IsInstructionAt classes main caller pc instr (Names (target.Call called))
-
--- run()V, neither static nor synchronized, with code
-abbrev pub is_run : List PoolEntry → Member → Bool
-is_run pool m =
-    same_text (member_name pool m) (codes "run") && same_text (member_descriptor pool m) (codes "()V") &&
-    not (has_flag m.flags static_flag) && not (has_flag m.flags synchronized_flag) && list_any is_code m.attributes
 
 -- the run()V of the class at this place
 pub record IsRunOf (classes : List ClassRecord) (class_at : ℕ) (id : MethodId) : Type 0 where
@@ -104,7 +97,7 @@ IsReached classes main id = Walk (Leads classes main) main id
 
 -- what the instructions of the list name
 abbrev pub resolved_of : List ClassRecord → MethodId → MethodId → ClassRecord → List Listed → List Resolved
-resolved_of classes main id class listing = map (λ item. resolve classes (is_method id main) class.pool item.instr) listing
+resolved_of classes main id class listing = map (λ item. resolve classes (is_method id main) class.pool listing item) listing
 
 -- a reached method with its reached instructions and what they name
 pub record IsReachedMethod (classes : List ClassRecord) (main : MethodId) (m : ReachedMethod) : Type 0 where

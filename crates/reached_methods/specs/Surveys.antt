@@ -63,11 +63,11 @@ pub record IsNamed (pc : ℕ) (names : Resolved) (t : Target) (fault : Option Fa
   pub target_is : t ≡ target_of names
   pub fault_is : IsNameFaultAt pc names fault
 
--- a listed instruction whose name is wrong
-pub record HasNameFault (classes : List ClassRecord) (main : Bool) (pool : List PoolEntry) (listing : List Listed) (pc : ℕ) (kind : CodeKind) (detail : Detail) : Type 0 where
+-- an instruction of a list whose name is wrong among all instructions
+pub record HasNameFault (classes : List ClassRecord) (main : Bool) (pool : List PoolEntry) (all listing : List Listed) (pc : ℕ) (kind : CodeKind) (detail : Detail) : Type 0 where
   pub instr : Instr
   pub there : StandsAt listing pc instr
-  pub wrong : IsNameFault (resolve classes main pool instr) kind detail
+  pub wrong : IsNameFault (resolve classes main pool all (record { pc = pc; instr = instr })) kind detail
 
 -- ---- Loops
 
@@ -114,7 +114,7 @@ pub record IsSurvey (classes : List ClassRecord) (main : MethodId) (m : ReachedM
   pub body : CodeBody
   pub code : HasCodeAt classes m.id class body
   pub listing : IsListingOf body.code m.listing
-  pub targets : m.targets ≡ map (λ item. target_of (resolve classes (is_method m.id main) class.pool item.instr)) m.listing
+  pub targets : m.targets ≡ map (λ item. target_of (resolve classes (is_method m.id main) class.pool m.listing item)) m.listing
 
 -- and the first fault of its own
 pub record IsSurveyed (classes : List ClassRecord) (main : MethodId) (s : Surveyed) : Type 0 where

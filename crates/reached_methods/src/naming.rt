@@ -52,11 +52,13 @@ fn name_one(
     index: &ClassIndex,
     main: bool,
     pool: &PoolEntries,
+    listing: &[Listed],
     item: &Listed,
 ) -> Result<Named, Memory>
-    ensures { IfOk result (λ named. IsNamed item.now.pc (resolve index.now.classes.now main pool.now item.now.instr) named.target named.fault) }
+    requires { IsByPc listing.now }
+    ensures { IfOk result (λ named. IsNamed item.now.pc (resolve index.now.classes.now main pool.now listing.now item.now) named.target named.fault) }
 {
-    match resolve(alloc, index, main, pool, &item.instr) {
+    match resolve(alloc, index, main, pool, listing, item) {
         Ok(target) => Ok(Named {
             target,
             fault: None,
@@ -91,15 +93,15 @@ pub fn name_all(
     listing: &[Listed],
 ) -> Result<Names, Memory>
     requires { IsByPc listing.now }
-    ensures targets { IfOk result (λ names. names.targets ≡ map (λ item. target_of (resolve index.now.classes.now main pool.now item.instr)) listing.now) }
-    ensures fault { IfOk result (λ names. IsFirstOrNone (HasNameFault index.now.classes.now main pool.now listing.now) names.fault) }
+    ensures targets { IfOk result (λ names. names.targets ≡ map (λ item. target_of (resolve index.now.classes.now main pool.now listing.now item)) listing.now) }
+    ensures fault { IfOk result (λ names. IsFirstOrNone (HasNameFault index.now.classes.now main pool.now listing.now listing.now) names.fault) }
 {
     let mut names = Names {
         targets: Items::new(alloc),
         fault: None,
     };
     for item in listing {
-        let named = name_one(alloc, index, main, pool, item)?;
+        let named = name_one(alloc, index, main, pool, listing, item)?;
         names.add(named)?;
     }
     Ok(names)

@@ -1,39 +1,17 @@
 //! The runs of threads, and the method that an instruction leads to.
 
 ghost use Rattle.std.specs.Prelude.{◌≡◌, ◌↔◌, IfOk, Some, position};
-ghost use Rattle.std.specs.List.{list_any};
-ghost use Rattle.class_format.specs.ClassText.{is_code};
 ghost use Rattle.program.specs.declared.method.MethodId.{MethodId};
 ghost use Rattle.reached_methods.specs.Exploring.{LeadsTo};
-ghost use Rattle.reached_methods.specs.Reached.{AreRuns, is_run, run_of};
+ghost use Rattle.reached_methods.specs.Reached.{AreRuns, run_of};
+ghost use Rattle.resolution.specs.Targets.{is_run};
 
 use crate::adding::push;
 use class_format::{ClassRecord, Member, PoolEntries};
-use class_names::{
-    STATIC, SYNCHRONIZED, has_code, has_flag, member_descriptor, member_name, same_text,
-};
 use ports::Memory;
 use program::MethodId;
-use resolution::Target;
+use resolution::{Target, is_run};
 use std::alloc::Global;
-
-/// Whether a method has a Code attribute.
-fn is_coded(method: &Member) -> bool
-    ensures { result ≡ list_any is_code method.now.attributes }
-{
-    has_code(method)
-}
-
-/// Whether a method is the run of a thread.
-fn is_run(pool: &PoolEntries, method: &Member) -> bool
-    ensures { result ≡ is_run pool.now method.now }
-{
-    same_text(member_name(pool, method), b"run")
-        && same_text(member_descriptor(pool, method), b"()V")
-        && !has_flag(method.flags, STATIC)
-        && !has_flag(method.flags, SYNCHRONIZED)
-        && is_coded(method)
-}
 
 /// The place of the first run among methods.
 fn run_place(pool: &PoolEntries, methods: &[Member]) -> Option<usize>

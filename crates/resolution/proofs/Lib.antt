@@ -2,3 +2,4 @@ mod SameTexts
 mod Adding
 mod Positions
 mod Declared
+mod FormPlaces

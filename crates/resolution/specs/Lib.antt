@@ -3,3 +3,4 @@ pub mod Places
 pub mod Resolution
 pub mod Signatures
 pub mod Tables
+pub mod Targets

@@ -13,6 +13,8 @@ use Rattle.class_format.specs.declared.record.PoolEntry.TheVariants as entry
 use Rattle.class_names.specs.Members.{final_flag, thread_name, parent_name, body_of}
 use Rattle.class_names.specs.Names.{has_flag, same_text, text_of, Reference, field_at, method_at, is_system_out, is_println, name_of}
 use Rattle.resolution.specs.Places.{is_static_named}
+use Rattle.opcodes.specs.declared.listed.Listed.{Listed}
+use Rattle.resolution.specs.Targets.{form_at, form_before}
 use Rattle.resolution.specs.Signatures.{signature_of}
 use Rattle.resolution.specs.declared.signature.Signature.{Signature}
 use Rattle.resolution.specs.declared.target.Target.{Target}
@@ -144,25 +146,43 @@ abbrev pub virtual_call : List ClassRecord → Bool → Option Reference → Res
 virtual_call classes main (Some r) = object_call classes main r
 virtual_call classes main None = Unknown None
 
-abbrev pub constructor_named : List ClassRecord → Bool → Reference → Resolved
-constructor_named classes main r =
-    if main && is_bare (codes "<init>") r && of_thread_class classes r then Names target.Construct else Forbidden (method_spelling r)
+-- what a call of a constructor names in main: that of a thread class, or of a form's target or thread
+abbrev pub main_constructor : List ClassRecord → List PoolEntry → List Listed → ℕ → Reference → Resolved
+main_constructor classes pool listing pc r =
+    if is_bare (codes "<init>") r && of_thread_class classes r then Names target.Construct
+    else if is_some (form_before classes pool listing 8 pc) then Names target.ConstructTarget
+    else if is_some (form_before classes pool listing 11 pc) then Names target.Wrap
+    else Forbidden (method_spelling r)
+
+abbrev pub constructor_named : List ClassRecord → Bool → List PoolEntry → List Listed → ℕ → Reference → Resolved
+constructor_named classes main pool listing pc r = if main then main_constructor classes pool listing pc r else Forbidden (method_spelling r)
 
 -- what an invokespecial names
-abbrev pub special_call : List ClassRecord → Bool → Option Reference → Resolved
-special_call classes main (Some r) = constructor_named classes main r
-special_call classes main None = Unknown None
+abbrev pub special_call : List ClassRecord → Bool → List PoolEntry → List Listed → ℕ → Option Reference → Resolved
+special_call classes main pool listing pc (Some r) = constructor_named classes main pool listing pc r
+special_call classes main pool listing pc None = Unknown None
 
 -- ---- New threads
 
-abbrev pub thread_made : List ℕ → Bool → Option ℕ → Resolved
-thread_made name true (Some place) = Names (target.New place)
-thread_made name main place = Forbidden name
+-- the class whose run()V a thread runs that a new in main makes: a thread class, or the target class of a form
+abbrev pub thread_run : List ClassRecord → List PoolEntry → List Listed → ℕ → List ℕ → Option ℕ
+thread_run classes pool listing pc name = if same_text name thread_name then form_at classes pool listing pc else thread_place classes name
+
+abbrev pub made_by : List ℕ → Option ℕ → Bool → Resolved
+made_by name (Some place) in_form = Names (target.New place)
+made_by name None in_form = if in_form then Names target.NewTarget else Forbidden name
+
+-- what a new of the class with this name names in main
+abbrev pub main_made : List ClassRecord → List PoolEntry → List Listed → ℕ → List ℕ → Resolved
+main_made classes pool listing pc name = made_by name (thread_run classes pool listing pc name) (is_some (form_before classes pool listing 4 pc))
+
+abbrev pub object_made : List ClassRecord → Bool → List PoolEntry → List Listed → ℕ → List ℕ → Resolved
+object_made classes main pool listing pc name = if main then main_made classes pool listing pc name else Forbidden name
 
 -- what a new names, by the entry
-abbrev pub class_made : List ClassRecord → Bool → List PoolEntry → Option PoolEntry → Resolved
-class_made classes main pool (Some (entry.Class name)) = thread_made (text_of pool name) main (thread_place classes (text_of pool name))
-class_made classes main pool e = Unknown None
+abbrev pub class_made : List ClassRecord → Bool → List PoolEntry → List Listed → ℕ → Option PoolEntry → Resolved
+class_made classes main pool listing pc (Some (entry.Class name)) = object_made classes main pool listing pc (text_of pool name)
+class_made classes main pool listing pc e = Unknown None
 
 -- ---- Constants
 
@@ -185,22 +205,26 @@ constant_named pool index e = Unknown None
 -- ---- Instructions
 
 -- what an instruction names; main alone makes, starts, joins and asks threads
-abbrev pub resolve : List ClassRecord → Bool → List PoolEntry → Instr → Resolved
-resolve classes main pool IconstM1 = Names (target.Constant (negsuc 0))
-resolve classes main pool Iconst0 = Names (target.Constant (pos 0))
-resolve classes main pool Iconst1 = Names (target.Constant (pos 1))
-resolve classes main pool Iconst2 = Names (target.Constant (pos 2))
-resolve classes main pool Iconst3 = Names (target.Constant (pos 3))
-resolve classes main pool Iconst4 = Names (target.Constant (pos 4))
-resolve classes main pool Iconst5 = Names (target.Constant (pos 5))
-resolve classes main pool (Bipush value) = Names (target.Constant value)
-resolve classes main pool (Sipush value) = Names (target.Constant value)
-resolve classes main pool (Ldc index) = constant_named pool index (entry_at pool index)
-resolve classes main pool (LdcW index) = constant_named pool index (entry_at pool index)
-resolve classes main pool (Getstatic index) = field_named classes true (field_at pool index)
-resolve classes main pool (Putstatic index) = field_named classes false (field_at pool index)
-resolve classes main pool (Invokevirtual index) = virtual_call classes main (method_at pool index)
-resolve classes main pool (Invokespecial index) = special_call classes main (method_at pool index)
-resolve classes main pool (Invokestatic index) = static_call classes (method_at pool index)
-resolve classes main pool (New index) = class_made classes main pool (entry_at pool index)
-resolve classes main pool instr = Names target.Nothing
+abbrev pub resolve_at : List ClassRecord → Bool → List PoolEntry → List Listed → ℕ → Instr → Resolved
+resolve_at classes main pool listing pc IconstM1 = Names (target.Constant (negsuc 0))
+resolve_at classes main pool listing pc Iconst0 = Names (target.Constant (pos 0))
+resolve_at classes main pool listing pc Iconst1 = Names (target.Constant (pos 1))
+resolve_at classes main pool listing pc Iconst2 = Names (target.Constant (pos 2))
+resolve_at classes main pool listing pc Iconst3 = Names (target.Constant (pos 3))
+resolve_at classes main pool listing pc Iconst4 = Names (target.Constant (pos 4))
+resolve_at classes main pool listing pc Iconst5 = Names (target.Constant (pos 5))
+resolve_at classes main pool listing pc (Bipush value) = Names (target.Constant value)
+resolve_at classes main pool listing pc (Sipush value) = Names (target.Constant value)
+resolve_at classes main pool listing pc (Ldc index) = constant_named pool index (entry_at pool index)
+resolve_at classes main pool listing pc (LdcW index) = constant_named pool index (entry_at pool index)
+resolve_at classes main pool listing pc (Getstatic index) = field_named classes true (field_at pool index)
+resolve_at classes main pool listing pc (Putstatic index) = field_named classes false (field_at pool index)
+resolve_at classes main pool listing pc (Invokevirtual index) = virtual_call classes main (method_at pool index)
+resolve_at classes main pool listing pc (Invokespecial index) = special_call classes main pool listing pc (method_at pool index)
+resolve_at classes main pool listing pc (Invokestatic index) = static_call classes (method_at pool index)
+resolve_at classes main pool listing pc (New index) = class_made classes main pool listing pc (entry_at pool index)
+resolve_at classes main pool listing pc instr = Names target.Nothing
+
+-- what a listed instruction names
+abbrev pub resolve : List ClassRecord → Bool → List PoolEntry → List Listed → Listed → Resolved
+resolve classes main pool listing item = resolve_at classes main pool listing item.pc item.instr

@@ -5,10 +5,12 @@ ghost use Rattle.std.specs.List.{list_all};
 ghost use Rattle.class_names.specs.Names.{reference_of, method_at, is_system_out, is_println};
 ghost use Rattle.class_names.specs.Names as spec;
 ghost use Rattle.class_format.specs.Pool as pools;
+ghost use Rattle.opcodes.specs.Listing.{IsByPc};
 ghost use Rattle.resolution.specs.Signatures.{signature_of};
 ghost use Rattle.resolution.specs.Misnamings.{Tells};
-ghost use Rattle.resolution.specs.Resolution.{resolve, field_named, foreign_field, field_resolved, own_field, own_method, field_of_class, static_call, method_of_class, method_resolved, virtual_call, object_call, special_call, constructor_named, class_made, thread_made, constant_named, class_object, is_called, is_bare, of_thread, of_thread_class, field_spelling, method_spelling, is_callable, is_name_byte, is_writable};
+ghost use Rattle.resolution.specs.Resolution.{resolve, field_named, foreign_field, field_resolved, own_field, own_method, field_of_class, static_call, method_of_class, method_resolved, virtual_call, object_call, special_call, constructor_named, main_constructor, class_made, object_made, main_made, thread_run, constant_named, class_object, is_called, is_bare, of_thread, of_thread_class, field_spelling, method_spelling, is_callable, is_name_byte, is_writable};
 
+use crate::forms::{form_at, form_before};
 use crate::index::ClassIndex;
 use crate::refusal::Misnamed;
 use crate::signature::signature_of;
@@ -18,9 +20,18 @@ use class_names::{
     Expected, FINAL, Reference, body_of, class_name_of, descriptor_of, has_flag, is_reference,
     member_name_of, same_text, text_of,
 };
-use opcodes::Instr;
+use opcodes::{Instr, Listed};
 use program::{MethodId, Name};
 use std::alloc::Global;
+
+/// Where an instruction stands: in a method of a class with this pool, among these reached instructions.
+#[derive(Clone, Copy)]
+struct Site<'a, 'c> {
+    index: &'a ClassIndex<'c>,
+    pool: &'a PoolEntries,
+    listing: &'a [Listed],
+    pc: u32,
+}
 
 /// The most bytes of a name that can be written.
 const MOST_BYTES: usize = 200;
@@ -372,76 +383,104 @@ fn virtual_call(
     }
 }
 
+/// What a call of a constructor names in main.
+fn main_constructor(alloc: Global, site: &Site, reference: Reference) -> Result<Target, Misnamed>
+    requires { IsByPc site.now.listing.now }
+    ensures { Tells (main_constructor site.now.index.now.classes.now site.now.pool.now site.now.listing.now site.now.pc (reference_of site.now.pool.now reference.class reference.name_and_type)) result }
+{
+    if is_bare(site.pool, b"<init>", reference)
+        && of_thread_class(site.index, site.pool, reference)
+    {
+        return Ok(Target::Construct);
+    }
+    if form_before(site.index, site.pool, site.listing, 8, site.pc).is_some() {
+        return Ok(Target::ConstructTarget);
+    }
+    if form_before(site.index, site.pool, site.listing, 11, site.pc).is_some() {
+        return Ok(Target::Wrap);
+    }
+    Err(forbidden(method_spelling(alloc, site.pool, reference)))
+}
+
 /// What a call of a constructor names.
 fn constructor_named(
     alloc: Global,
-    index: &ClassIndex,
     main: bool,
-    pool: &PoolEntries,
+    site: &Site,
     reference: Reference,
 ) -> Result<Target, Misnamed>
-    ensures { Tells (constructor_named index.now.classes.now main (reference_of pool.now reference.class reference.name_and_type)) result }
+    requires { IsByPc site.now.listing.now }
+    ensures { Tells (constructor_named site.now.index.now.classes.now main site.now.pool.now site.now.listing.now site.now.pc (reference_of site.now.pool.now reference.class reference.name_and_type)) result }
 {
-    if main && is_bare(pool, b"<init>", reference) && of_thread_class(index, pool, reference) {
-        return Ok(Target::Construct);
+    if main {
+        main_constructor(alloc, site, reference)
+    } else {
+        Err(forbidden(method_spelling(alloc, site.pool, reference)))
     }
-    Err(forbidden(method_spelling(alloc, pool, reference)))
 }
 
 /// What an `invokespecial` names.
-fn special_call(
-    alloc: Global,
-    index: &ClassIndex,
-    main: bool,
-    pool: &PoolEntries,
-    entry: u16,
-) -> Result<Target, Misnamed>
-    ensures { Tells (special_call index.now.classes.now main (method_at pool.now entry)) result }
+fn special_call(alloc: Global, main: bool, site: &Site, entry: u16) -> Result<Target, Misnamed>
+    requires { IsByPc site.now.listing.now }
+    ensures { Tells (special_call site.now.index.now.classes.now main site.now.pool.now site.now.listing.now site.now.pc (method_at site.now.pool.now entry)) result }
 {
-    match entry_at(pool, entry) {
+    match entry_at(site.pool, entry) {
         Some(PoolEntry::Method(class, name_and_type)) => {
             let reference = Reference {
                 class: *class,
                 name_and_type: *name_and_type,
             };
-            constructor_named(alloc, index, main, pool, reference)
+            constructor_named(alloc, main, site, reference)
         }
         _ => Err(Misnamed::Unknown { name: None }),
     }
 }
 
-/// What a `new` of the class with this name names, by the place of the thread class with it.
-fn thread_made(
-    alloc: Global,
-    name: &[u8],
-    main: bool,
-    place: Option<u32>,
-) -> Result<Target, Misnamed>
-    ensures { Tells (thread_made name.now main place) result }
+/// The place of the class whose run a thread has that a `new` in main makes.
+fn thread_run(site: &Site, name: &[u8]) -> Option<u32>
+    requires { IsByPc site.now.listing.now }
+    ensures { result ≡ thread_run site.now.index.now.classes.now site.now.pool.now site.now.listing.now site.now.pc name.now }
 {
-    if main {
-        if let Some(place) = place {
-            return Ok(Target::New(place));
-        }
+    if same_text(name, b"java/lang/Thread") {
+        form_at(site.index, site.pool, site.listing, u64::from(site.pc))
+    } else {
+        site.index.thread_place(name)
+    }
+}
+
+/// What a `new` of the class with this name names in main.
+fn main_made(alloc: Global, site: &Site, name: &[u8]) -> Result<Target, Misnamed>
+    requires { IsByPc site.now.listing.now }
+    ensures { Tells (main_made site.now.index.now.classes.now site.now.pool.now site.now.listing.now site.now.pc name.now) result }
+{
+    if let Some(place) = thread_run(site, name) {
+        return Ok(Target::New(place));
+    }
+    if form_before(site.index, site.pool, site.listing, 4, site.pc).is_some() {
+        return Ok(Target::NewTarget);
     }
     Err(forbidden(name_of(alloc, name)))
 }
 
-/// What a `new` names.
-fn class_made(
-    alloc: Global,
-    index: &ClassIndex,
-    main: bool,
-    pool: &PoolEntries,
-    entry: u16,
-) -> Result<Target, Misnamed>
-    ensures { Tells (class_made index.now.classes.now main pool.now (pools.entry_at pool.now entry)) result }
+/// What a `new` of the class with this name names.
+fn object_made(alloc: Global, main: bool, site: &Site, name: &[u8]) -> Result<Target, Misnamed>
+    requires { IsByPc site.now.listing.now }
+    ensures { Tells (object_made site.now.index.now.classes.now main site.now.pool.now site.now.listing.now site.now.pc name.now) result }
 {
-    match entry_at(pool, entry) {
-        Some(PoolEntry::Class(name)) => {
-            let name = text_of(pool, *name);
-            thread_made(alloc, name, main, index.thread_place(name))
-        }
+    if main {
+        main_made(alloc, site, name)
+    } else {
+        Err(forbidden(name_of(alloc, name)))
+    }
+}
+
+/// What a `new` names.
+fn class_made(alloc: Global, main: bool, site: &Site, entry: u16) -> Result<Target, Misnamed>
+    requires { IsByPc site.now.listing.now }
+    ensures { Tells (class_made site.now.index.now.classes.now main site.now.pool.now site.now.listing.now site.now.pc (pools.entry_at site.now.pool.now entry)) result }
+{
+    match entry_at(site.pool, entry) {
+        Some(PoolEntry::Class(name)) => object_made(alloc, main, site, text_of(site.pool, *name)),
         _ => Err(Misnamed::Unknown { name: None }),
     }
 }
@@ -493,7 +532,7 @@ fn constant_named(alloc: Global, pool: &PoolEntries, entry: u16) -> Result<Targe
     }
 }
 
-/// What an instruction of a class with this pool names; main alone makes, starts, joins and asks threads.
+/// What a listed instruction of a class with this pool names; main alone makes, starts, joins and asks threads.
 ///
 /// # Errors
 /// `Unknown`, `Forbidden` and `Final` as docs/PROFILE.md, "Names", has them; `Memory` where there is no room for the name
@@ -503,11 +542,19 @@ pub fn resolve(
     index: &ClassIndex,
     main: bool,
     pool: &PoolEntries,
-    instr: &Instr,
+    listing: &[Listed],
+    item: &Listed,
 ) -> Result<Target, Misnamed>
-    ensures { Tells (resolve index.now.classes.now main pool.now instr.now) result }
+    requires { IsByPc listing.now }
+    ensures { Tells (resolve index.now.classes.now main pool.now listing.now item.now) result }
 {
-    match instr {
+    let site = Site {
+        index,
+        pool,
+        listing,
+        pc: item.pc,
+    };
+    match &item.instr {
         Instr::IconstM1 => Ok(Target::Constant(-1)),
         Instr::Iconst0 => Ok(Target::Constant(0)),
         Instr::Iconst1 => Ok(Target::Constant(1)),
@@ -522,9 +569,9 @@ pub fn resolve(
         Instr::Getstatic { index: entry } => field_named(alloc, index, true, pool, *entry),
         Instr::Putstatic { index: entry } => field_named(alloc, index, false, pool, *entry),
         Instr::Invokevirtual { index: entry } => virtual_call(alloc, index, main, pool, *entry),
-        Instr::Invokespecial { index: entry } => special_call(alloc, index, main, pool, *entry),
+        Instr::Invokespecial { index: entry } => special_call(alloc, main, &site, *entry),
         Instr::Invokestatic { index: entry } => static_call(alloc, index, pool, *entry),
-        Instr::New { index: entry } => class_made(alloc, index, main, pool, *entry),
+        Instr::New { index: entry } => class_made(alloc, main, &site, *entry),
         _ => Ok(Target::Nothing),
     }
 }

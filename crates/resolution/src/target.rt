@@ -15,10 +15,16 @@ pub enum Target {
     Out,
     /// A call of `java/io/PrintStream.println(I)V`.
     Print,
-    /// A `new` of the thread class at this place.
+    /// A `new` of a thread, whose run is that of the class at this place: of a thread class, or of the target class of a form.
     New(u32),
     /// A call of a thread class's constructor.
     Construct,
+    /// A `new` of the target of the thread that was made last.
+    NewTarget,
+    /// A call of a target class's constructor in a form.
+    ConstructTarget,
+    /// A call of the constructor of `java/lang/Thread` in a form.
+    Wrap,
     /// A call of a thread's `start()V`.
     Start,
     /// A call of a thread's `join()V`.

@@ -16,10 +16,11 @@ use Rattle.class_names.specs.Names.{has_flag, same_text}
 use Rattle.class_profile.specs.Profile.{IsOfProfile}
 use Rattle.opcodes.specs.declared.listed.Listed.{Listed}
 use Rattle.program.specs.declared.method.MethodId.{MethodId}
-use Rattle.reached_methods.specs.Reached.{IsMethodAt, IsReached, IsReachedMethod, Leads, AreReachedMethods, is_method, is_run}
+use Rattle.reached_methods.specs.Reached.{IsMethodAt, IsReached, IsReachedMethod, Leads, AreReachedMethods, is_method}
 use Rattle.reached_methods.specs.Reached.Leads.{calls, makes}
 use Rattle.reached_methods.specs.declared.method.ReachedMethod.{ReachedMethod}
 use Rattle.resolution.specs.Resolution.{Resolved, Names, resolve}
+use Rattle.resolution.specs.Targets.{is_run}
 use Rattle.resolution.specs.Signatures.{signature_of}
 use Rattle.resolution.specs.declared.target.Target.{Target}
 use Rattle.resolution.specs.declared.target.Target.TheVariants as target
@@ -99,7 +100,7 @@ module _ (classes : List ClassRecord) (main : MethodId) (profile : IsOfProfile c
       by_step : (a : MethodId) → Leads classes main a id → IsSome (signature_by (entry_of (is_method id main) m) (member_descriptor class.pool m))
       by_step a (calls call) =
           by_signature id class m there (is_method id main)
-          (resolved_known classes profile (is_method a main) call.call.class.pool call.instr (target.Call id) call.call.resolved)
+          (resolved_known classes profile (is_method a main) call.call.class.pool call.call.listing call.pc call.instr (target.Call id) call.call.resolved)
       by_step a (makes is_main make) =
           let same_class : make.runs.class ≡ class = same_Some make.runs.class class (sym make.runs.class_there ∙ ap (slice_get classes) (sym make.runs.same_class) ∙ there.class_there) in
           let first : position (is_run class.pool) class.methods ≡ Some id.method = subst (λ (x : ClassRecord). position (is_run x.pool) x.methods ≡ Some id.method) same_class make.runs.first in
@@ -114,8 +115,8 @@ module _ (classes : List ClassRecord) (main : MethodId) (profile : IsOfProfile c
     body = reached.body;
     code = reached.code.code;
     declared = declared m.id reached.class reached.code.method reached.code.there reached.reached;
-    targets = known_targets (λ item. resolve classes (is_method m.id main) reached.class.pool item.instr) m.listing m.targets
-        (λ item t same. resolved_known classes profile (is_method m.id main) reached.class.pool item.instr t same) reached.targets;
+    targets = known_targets (λ item. resolve classes (is_method m.id main) reached.class.pool m.listing item) m.listing m.targets
+        (λ item t same. resolved_known classes profile (is_method m.id main) reached.class.pool m.listing item.pc item.instr t same) reached.targets;
   }
 
   pub known_methods : (methods : List ReachedMethod) → AreReachedMethods classes main methods → AreKnown classes main methods

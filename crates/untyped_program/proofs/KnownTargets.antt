@@ -1,5 +1,5 @@
 -- What is known of the targets of reached methods.
-use Rattle.std.proofs.Common.{◌≡◌, ◌<◌, ◌&&◌, ℕ, Bool, true, false, cond, not, List, Option, Some, None, IsSome, Any, codes, if◌then◌else◌, length, position, slice_get, refl, sym, ap, ◌∙◌, subst, arith, inl, inr}
+use Rattle.std.proofs.Common.{◌≡◌, ◌<◌, ◌+◌, ◌-◌, ◌&&◌, ℕ, Bool, true, false, cond, not, List, Option, Some, None, IsSome, Any, codes, if◌then◌else◌, length, position, slice_get, refl, sym, ap, ◌∙◌, subst, arith, inl, inr}
 use Rattle.std.specs.List.{position_or_len, list_any}
 use Rattle.std.specs.Option.{is_some, option_map}
 use Rattle.std.proofs.lemmas.Bool.{false≢true, lt-ltb, cases_lt}
@@ -21,10 +21,12 @@ use Rattle.class_profile.specs.Profile.{IsOfProfile}
 use Rattle.class_profile.specs.Threads.{IsRun}
 use Rattle.class_profile.specs.declared.refusal.ClassKind.TheVariants.{FieldType, ThreadClass, NameForm}
 use Rattle.opcodes.specs.declared.instruction.Instr.{Instr}
+use Rattle.opcodes.specs.declared.listed.Listed.{Listed}
 use Rattle.opcodes.specs.declared.instruction.Instr.TheVariants.{IconstM1, Iconst0, Iconst1, Iconst2, Iconst3, Iconst4, Iconst5, Bipush, Sipush, Ldc, LdcW, Getstatic, Putstatic, Invokevirtual, Invokespecial, Invokestatic, New}
-use Rattle.reached_methods.specs.Reached.{is_run, run_in, run_of}
-use Rattle.resolution.specs.Resolution.{Resolved, Names, Unknown, Forbidden, Final, resolve, class_place, extends_thread, thread_at, thread_place, field_resolved, own_field, field_of_class, field_of, field_named, is_callable, method_resolved, own_method, method_of_class, method_of, static_call, is_called, is_bare, of_thread_class, of_thread, virtual_call, special_call, thread_made, class_made, constant_named, is_writable, method_spelling}
+use Rattle.reached_methods.specs.Reached.{run_in, run_of}
+use Rattle.resolution.specs.Resolution.{Resolved, Names, Unknown, Forbidden, Final, resolve_at, class_place, extends_thread, thread_at, thread_place, field_resolved, own_field, field_of_class, field_of, field_named, is_callable, method_resolved, own_method, method_of_class, method_of, static_call, is_called, is_bare, of_thread_class, of_thread, virtual_call, special_call, constructor_named, made_by, object_made, thread_run, class_made, constant_named, is_writable, method_spelling}
 use Rattle.resolution.specs.Places.{is_static_named}
+use Rattle.resolution.specs.Targets.{is_run, is_target, is_target_class, target_at, target_place, target_made, is_call, instr_at, made_name, special_name, form_at, form_before}
 use Rattle.resolution.specs.Signatures.{signature_of}
 use Rattle.resolution.specs.declared.signature.Signature.{Signature}
 use Rattle.resolution.specs.declared.target.Target.{Target}
@@ -207,56 +209,99 @@ module _ (classes : List ClassRecord) (profile : IsOfProfile classes) where
       (choice (main && is_called (codes "isAlive") (codes "()Z") r && of_thread classes r) target.Alive t _ tt (λ e. cc)))) same
   virtual_known main None t same = cc
 
-  special_known : (main : Bool) (o : Option Reference) (t : Target) → special_call classes main o ≡ Names t → IsKnown classes t
-  special_known main (Some r) t same = choice (main && is_bare (codes "<init>") r && of_thread_class classes r) target.Construct t _ tt (λ e. cc) same
-  special_known main None t same = cc
+  constructor_known : (main : Bool) (pool : List PoolEntry) (listing : List Listed) (pc : ℕ) (r : Reference) (t : Target) → constructor_named classes main pool listing pc r ≡ Names t → IsKnown classes t
+  constructor_known true pool listing pc r t same =
+      choice (is_bare (codes "<init>") r && of_thread_class classes r) target.Construct t _ tt
+      (choice (is_some (form_before classes pool listing 8 pc)) target.ConstructTarget t _ tt
+      (choice (is_some (form_before classes pool listing 11 pc)) target.Wrap t _ tt (λ e. cc))) same
+  constructor_known false pool listing pc r t same = cc
+
+  special_known : (main : Bool) (pool : List PoolEntry) (listing : List Listed) (pc : ℕ) (o : Option Reference) (t : Target) → special_call classes main pool listing pc o ≡ Names t → IsKnown classes t
+  special_known main pool listing pc (Some r) t same = constructor_known main pool listing pc r t same
+  special_known main pool listing pc None t same = cc
 
   -- ---- Threads
 
-  runs : (place : ℕ) (o : Option ClassRecord) → slice_get classes place ≡ o → extends_thread o ≡ true → IsSome (run_of classes place)
-  runs place (Some class) there extends =
-      let thread = sym (same_is thread_name (parent_name class) extends) in
-      let found = from_some (position (is_run class.pool) class.methods) (has_run class.pool class.methods ((profile ThreadClass place class there).thread thread).run) in
+  run_found : (place : ℕ) (class : ClassRecord) → slice_get classes place ≡ Some class → IsSome (position (is_run class.pool) class.methods) → IsSome (run_of classes place)
+  run_found place class there some =
+      let found = from_some (position (is_run class.pool) class.methods) some in
       ap (λ (o : Option ClassRecord). is_some {T = MethodId} (run_in place o)) there
       ∙ ap (λ (o : Option ℕ). is_some {T = MethodId} (option_map (λ method_at. record { class = place; method = method_at }) o)) found.1
-  runs place None there extends = absurd (false≢true extends)
+
+  thread_runs : (place : ℕ) (o : Option ClassRecord) → slice_get classes place ≡ o → extends_thread o ≡ true → IsSome (run_of classes place)
+  thread_runs place (Some class) there extends =
+      let thread = sym (same_is thread_name (parent_name class) extends) in
+      run_found place class there (has_run class.pool class.methods ((profile ThreadClass place class there).thread thread).run)
+  thread_runs place None there extends = absurd (false≢true extends)
+
+  target_runs : (place : ℕ) (o : Option ClassRecord) → slice_get classes place ≡ o → is_target_class o ≡ true → IsSome (run_of classes place)
+  target_runs place (Some class) there is = run_found place class there (some_position (is_run class.pool) class.methods (and_second _ (list_any (is_run class.pool) class.methods) is))
+  target_runs place None there is = absurd (false≢true is)
+
+  -- what is kept passes
+  kept : (p : Option ClassRecord → Bool) (k place : ℕ) (b : Bool) → p (slice_get classes k) ≡ b → (if b then Some k else None) ≡ Some place → p (slice_get classes place) ≡ true
+  kept p k place true passes e = let same : k ≡ place = cc in ap (λ (n : ℕ). p (slice_get classes n)) (sym same) ∙ passes
+  kept p k place false passes e = cc
 
   thread_there : (o : Option ℕ) (place : ℕ) → thread_at classes o ≡ Some place → extends_thread (slice_get classes place) ≡ true
-  thread_there (Some k) place is = go (extends_thread (slice_get classes k)) refl is
-    where
-      go : (b : Bool) → extends_thread (slice_get classes k) ≡ b → (if b then Some k else None) ≡ Some place → extends_thread (slice_get classes place) ≡ true
-      go true extends e = let same : k ≡ place = cc in ap (λ (n : ℕ). extends_thread (slice_get classes n)) (sym same) ∙ extends
-      go false extends e = cc
+  thread_there (Some k) place is = kept extends_thread k place (extends_thread (slice_get classes k)) refl is
   thread_there None place is = cc
 
-  made_known : (main : Bool) (name : List ℕ) (o : Option ℕ) (t : Target) → thread_place classes name ≡ o → thread_made name main o ≡ Names t → IsKnown classes t
-  made_known true name (Some place) t found same =
-      told (target.New place) t (runs place (slice_get classes place) refl (thread_there (class_place classes name) place found)) same
-  made_known true name None t found same = cc
-  made_known false name o t found same = cc
+  target_there : (o : Option ℕ) (place : ℕ) → target_at classes o ≡ Some place → is_target_class (slice_get classes place) ≡ true
+  target_there (Some k) place is = kept is_target_class k place (is_target_class (slice_get classes k)) refl is
+  target_there None place is = cc
 
-  new_known : (main : Bool) (pool : List PoolEntry) (e : Option PoolEntry) (t : Target) → class_made classes main pool e ≡ Names t → IsKnown classes t
-  new_known main pool (Some (entry.Class name)) t same = made_known main (text_of pool name) (thread_place classes (text_of pool name)) t refl same
-  new_known main pool e t same = cc
+  if_some : (b : Bool) (o : Option ℕ) (place : ℕ) → (if b then o else None) ≡ Some place → o ≡ Some place
+  if_some true o place is = is
+  if_some false o place is = cc
+
+  made_there : (name : Option (List ℕ)) (r : Option Reference) (place : ℕ) → target_made classes name r ≡ Some place → is_target_class (slice_get classes place) ≡ true
+  made_there (Some name) r place is = target_there _ place (if_some (is_call name (codes "<init>") (codes "()V") r) (target_place classes name) place is)
+  made_there None r place is = cc
+
+  form_there : (pool : List PoolEntry) (listing : List Listed) (pc place : ℕ) → form_at classes pool listing pc ≡ Some place → is_target_class (slice_get classes place) ≡ true
+  form_there pool listing pc place is =
+      let name = made_name pool (instr_at listing (pc + 4)) in
+      let call = special_name pool (instr_at listing (pc + 8)) in
+      made_there name call place (if_some _ (target_made classes name call) place is)
+
+  run_there : (b : Bool) (pool : List PoolEntry) (listing : List Listed) (pc : ℕ) (name : List ℕ) (place : ℕ) →
+      (if b then form_at classes pool listing pc else thread_place classes name) ≡ Some place → IsSome (run_of classes place)
+  run_there true pool listing pc name place is = target_runs place (slice_get classes place) refl (form_there pool listing pc place is)
+  run_there false pool listing pc name place is = thread_runs place (slice_get classes place) refl (thread_there (class_place classes name) place is)
+
+  made_known : (name : List ℕ) (o : Option ℕ) (in_form : Bool) (t : Target) → ((place : ℕ) → o ≡ Some place → IsSome (run_of classes place)) → made_by name o in_form ≡ Names t → IsKnown classes t
+  made_known name (Some place) in_form t runs same = told (target.New place) t (runs place refl) same
+  made_known name None true t runs same = told target.NewTarget t tt same
+  made_known name None false t runs same = cc
+
+  object_known : (main : Bool) (pool : List PoolEntry) (listing : List Listed) (pc : ℕ) (name : List ℕ) (t : Target) → object_made classes main pool listing pc name ≡ Names t → IsKnown classes t
+  object_known true pool listing pc name t same =
+      made_known name (thread_run classes pool listing pc name) (is_some (form_before classes pool listing 4 pc)) t (run_there (same_text name thread_name) pool listing pc name) same
+  object_known false pool listing pc name t same = cc
+
+  new_known : (main : Bool) (pool : List PoolEntry) (listing : List Listed) (pc : ℕ) (e : Option PoolEntry) (t : Target) → class_made classes main pool listing pc e ≡ Names t → IsKnown classes t
+  new_known main pool listing pc (Some (entry.Class name)) t same = object_known main pool listing pc (text_of pool name) t same
+  new_known main pool listing pc e t same = cc
 
   -- ---- All instructions
 
-  pub resolved_known : (main : Bool) (pool : List PoolEntry) (instr : Instr) (t : Target) → resolve classes main pool instr ≡ Names t → IsKnown classes t
-  resolved_known main pool IconstM1 t same = told (target.Constant _) t tt same
-  resolved_known main pool Iconst0 t same = told (target.Constant _) t tt same
-  resolved_known main pool Iconst1 t same = told (target.Constant _) t tt same
-  resolved_known main pool Iconst2 t same = told (target.Constant _) t tt same
-  resolved_known main pool Iconst3 t same = told (target.Constant _) t tt same
-  resolved_known main pool Iconst4 t same = told (target.Constant _) t tt same
-  resolved_known main pool Iconst5 t same = told (target.Constant _) t tt same
-  resolved_known main pool (Bipush value) t same = told (target.Constant value) t tt same
-  resolved_known main pool (Sipush value) t same = told (target.Constant value) t tt same
-  resolved_known main pool (Ldc index) t same = constant_known pool index (entry_at pool index) t same
-  resolved_known main pool (LdcW index) t same = constant_known pool index (entry_at pool index) t same
-  resolved_known main pool (Getstatic index) t same = field_known true (field_at pool index) t same
-  resolved_known main pool (Putstatic index) t same = field_known false (field_at pool index) t same
-  resolved_known main pool (Invokevirtual index) t same = virtual_known main (method_at pool index) t same
-  resolved_known main pool (Invokespecial index) t same = special_known main (method_at pool index) t same
-  resolved_known main pool (Invokestatic index) t same = static_known (method_at pool index) t same
-  resolved_known main pool (New index) t same = new_known main pool (entry_at pool index) t same
-  resolved_known main pool instr t same = told target.Nothing t tt same
+  pub resolved_known : (main : Bool) (pool : List PoolEntry) (listing : List Listed) (pc : ℕ) (instr : Instr) (t : Target) → resolve_at classes main pool listing pc instr ≡ Names t → IsKnown classes t
+  resolved_known main pool listing pc IconstM1 t same = told (target.Constant _) t tt same
+  resolved_known main pool listing pc Iconst0 t same = told (target.Constant _) t tt same
+  resolved_known main pool listing pc Iconst1 t same = told (target.Constant _) t tt same
+  resolved_known main pool listing pc Iconst2 t same = told (target.Constant _) t tt same
+  resolved_known main pool listing pc Iconst3 t same = told (target.Constant _) t tt same
+  resolved_known main pool listing pc Iconst4 t same = told (target.Constant _) t tt same
+  resolved_known main pool listing pc Iconst5 t same = told (target.Constant _) t tt same
+  resolved_known main pool listing pc (Bipush value) t same = told (target.Constant value) t tt same
+  resolved_known main pool listing pc (Sipush value) t same = told (target.Constant value) t tt same
+  resolved_known main pool listing pc (Ldc index) t same = constant_known pool index (entry_at pool index) t same
+  resolved_known main pool listing pc (LdcW index) t same = constant_known pool index (entry_at pool index) t same
+  resolved_known main pool listing pc (Getstatic index) t same = field_known true (field_at pool index) t same
+  resolved_known main pool listing pc (Putstatic index) t same = field_known false (field_at pool index) t same
+  resolved_known main pool listing pc (Invokevirtual index) t same = virtual_known main (method_at pool index) t same
+  resolved_known main pool listing pc (Invokespecial index) t same = special_known main pool listing pc (method_at pool index) t same
+  resolved_known main pool listing pc (Invokestatic index) t same = static_known (method_at pool index) t same
+  resolved_known main pool listing pc (New index) t same = new_known main pool listing pc (entry_at pool index) t same
+  resolved_known main pool listing pc instr t same = told target.Nothing t tt same

@@ -1,10 +1,10 @@
 //! What the instructions of a method name, by numbers.
 
-ghost use Rattle.std.specs.Prelude.{◌≡◌, ◌<◌, [], All, IfOk, IsSome, Some, length, map, slice_index_or};
+ghost use Rattle.std.specs.Prelude.{◌≡◌, ◌<◌, ◌+◌, if◌then◌else◌, [], All, IfOk, IsSome, Some, length, map, slice_index_or};
 ghost use Rattle.std.specs.Option.{option_map};
 ghost use Rattle.typing.specs.declared.symbol.Symbol.TheVariants as symbol;
 ghost use Rattle.untyped_program.specs.Known.{HasSymbol};
-ghost use Rattle.untyped_program.specs.Methods.{called, signature_at, symbol_of, symbols_from};
+ghost use Rattle.untyped_program.specs.Methods.{called, is_new, signature_at, symbol_of, symbols_from};
 ghost use Rattle.untyped_program.specs.Monitors.{monitor_number};
 ghost use Rattle.untyped_program.specs.Tables.{HasNumberFor, number_in};
 
@@ -71,6 +71,16 @@ fn number_in(numbers: &[Items<u32>], class: u32, field: u32) -> u32
     numbers[class as usize].as_slice()[field as usize]
 }
 
+/// How many threads are made behind an instruction, by what it names.
+fn made_behind(made: u32, target: Target) -> Result<u32, Memory>
+    ensures { IfOk result (λ n. n ≡ made + (if is_new target then 1 else 0)) }
+{
+    match target {
+        Target::New(_) => made.checked_add(1).ok_or(Memory),
+        _ => Ok(made),
+    }
+}
+
 impl Names<'_, '_> {
     /// What is named, behind so many threads made.
     fn symbol_of(&self, pool: &PoolEntries, made: u32, target: Target) -> Result<Symbol, Memory>
@@ -87,7 +97,10 @@ impl Names<'_, '_> {
             Target::Out => Ok(Symbol::Out),
             Target::Print => Ok(Symbol::Print),
             Target::New(_) => Ok(Symbol::Make(made.checked_add(1).ok_or(Memory)?)),
+            Target::NewTarget => Ok(Symbol::MakeTarget(made)),
             Target::Construct => Ok(Symbol::Construct),
+            Target::ConstructTarget => Ok(Symbol::ConstructTarget),
+            Target::Wrap => Ok(Symbol::Wrap),
             Target::Start => Ok(Symbol::Start),
             Target::Join => Ok(Symbol::Join),
             Target::Alive => Ok(Symbol::Alive),
@@ -112,9 +125,7 @@ impl Names<'_, '_> {
         for target in targets {
             let symbol = self.symbol_of(pool, made, *target)?;
             symbols.push(symbol)?;
-            if let Target::New(_) = target {
-                made = made.checked_add(1).ok_or(Memory)?;
-            }
+            made = made_behind(made, *target)?;
         }
         Ok(symbols)
     }

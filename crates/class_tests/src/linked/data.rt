@@ -11,7 +11,7 @@ enum Entry {
     Pair(u8, u8),
 }
 
-const POOL: [Entry; 89] = [
+const POOL: [Entry; 98] = [
     Entry::Text(b"M"),
     Entry::Class(1),
     Entry::Text(b"N"),
@@ -101,14 +101,24 @@ const POOL: [Entry; 89] = [
     Entry::Text(b"()Z"),
     Entry::Pair(86, 87),
     Entry::Method(6, 88),
+    Entry::Text(b"java/lang/Runnable"),
+    Entry::Class(90),
+    Entry::Method(8, 17),
+    Entry::Method(4, 17),
+    Entry::Text(b"(Ljava/lang/Runnable;)V"),
+    Entry::Pair(16, 94),
+    Entry::Method(10, 95),
+    Entry::Method(10, 21),
+    Entry::Method(4, 21),
 ];
 
-/// The indices of a class and of its superclass, and whether it is an interface.
+/// The indices of a class and of its superclass, whether it is an interface, and whether it names java/lang/Runnable.
 #[derive(Clone, Copy)]
 pub struct Head {
     pub this: u8,
     pub parent: u8,
     pub interface: bool,
+    pub runnable: bool,
 }
 
 impl Head {
@@ -118,6 +128,7 @@ impl Head {
             this,
             parent,
             interface: false,
+            runnable: false,
         }
     }
 }
@@ -138,13 +149,14 @@ impl Field {
 /// The indices of the names of sixteen more fields, whose Fieldrefs have the indices from 70 on.
 pub const MORE: [u8; 16] = [1, 3, 5, 11, 12, 14, 15, 16, 20, 23, 27, 35, 41, 42, 45, 49];
 
-/// A method: its flags, the indices of its name and of its descriptor, and its code.
+/// A method: its flags, the indices of its name and of its descriptor, its code, and how high its stack is at most.
 #[derive(Clone, Copy)]
 pub struct Part {
     pub flags: u8,
     pub name: u8,
     pub descriptor: u8,
     pub code: &'static [u8],
+    pub stack: u8,
 }
 
 fn add_entry(out: &mut Vec<u8>, entry: &Entry) -> Result<(), AllocError> {
@@ -166,14 +178,27 @@ fn add_entry(out: &mut Vec<u8>, entry: &Entry) -> Result<(), AllocError> {
 fn add_method(out: &mut Vec<u8>, part: &Part) -> Result<(), AllocError> {
     let size = u8::try_from(part.code.len()).unwrap_or(0);
     out.extend_from_slice(&[0, part.flags, 0, part.name, 0, part.descriptor, 0, 1, 0, 11])?;
-    out.extend_from_slice(&[0, 0, 0, size.wrapping_add(12), 0, 2, 0, 2, 0, 0, 0, size])?;
+    out.extend_from_slice(&[
+        0,
+        0,
+        0,
+        size.wrapping_add(12),
+        0,
+        part.stack,
+        0,
+        2,
+        0,
+        0,
+        0,
+        size,
+    ])?;
     out.extend_from_slice(part.code)?;
     out.extend_from_slice(&[0, 0, 0, 0])?;
     Ok(())
 }
 
 /// The bytes of a class with the static ints x, which is volatile, and y, and those that `more` names, and with these methods,
-/// each of two locals and a stack of two.
+/// each of two locals.
 pub fn class_bytes(
     alloc: Global,
     head: Head,
@@ -182,14 +207,19 @@ pub fn class_bytes(
     parts: &[Part],
 ) -> Result<Vec<u8>, AllocError> {
     let mut out = Vec::new(alloc);
-    out.extend_from_slice(&[0xca, 0xfe, 0xba, 0xbe, 0, 0, 0, 49, 0, 90])?;
+    out.extend_from_slice(&[0xca, 0xfe, 0xba, 0xbe, 0, 0, 0, 49, 0, 99])?;
     for item in &POOL {
         add_entry(&mut out, item)?;
     }
     let interface = if head.interface { 2 } else { 0 };
     let fields = u8::try_from(more.len()).unwrap_or(0).wrapping_add(2);
     out.extend_from_slice(&[interface, 0x21, 0, head.this, 0, head.parent])?;
-    out.extend_from_slice(&[0, 0, 0, fields, 0, 0x48, 0, 26, 0, 27, 0, 0])?;
+    if head.runnable {
+        out.extend_from_slice(&[0, 1, 0, 91])?;
+    } else {
+        out.extend_from_slice(&[0, 0])?;
+    }
+    out.extend_from_slice(&[0, fields, 0, 0x48, 0, 26, 0, 27, 0, 0])?;
     out.extend_from_slice(&[0, second.flags, 0, 30, 0, second.descriptor, 0, 0])?;
     for name in more {
         out.extend_from_slice(&[0, 8, 0, *name, 0, 27, 0, 0])?;

@@ -2,7 +2,7 @@ use Rattle.class_format.specs.ClassText.{is_code}
 use Rattle.std.proofs.lemmas.Bool.Decides.{same_from_decides}
 use Rattle.std.specs.List.{list_any}
 use Rattle.std.proofs.lemmas.List.Folds.{Any-from_list_any, list_any-from_Any}
-use Rattle.reached_methods.proofs.runs.is_coded.Goals as goal
+use Rattle.resolution.proofs.targets.is_coded.Goals as goal
 
 pub returns : goal.returns
 returns c =
