@@ -2,4 +2,12 @@
 #![tactic(auto)]
 
 #[cfg(test)]
+mod conflicts;
+#[cfg(test)]
+mod decisions;
+#[cfg(test)]
+mod literals_as_numbers;
+#[cfg(test)]
 mod pool;
+#[cfg(test)]
+mod trails;

@@ -1,0 +1,16 @@
+use Rattle.std.proofs.Common.{get_or, subst, arith}
+use Rattle.literals.specs.Propagation.{IsFalseIn}
+use Rattle.literals.proofs.Members.{IsIn-place, place-IsIn}
+use Rattle.trail.specs.Steps.{literals_of}
+use Rattle.conflict_analysis.specs.Marks.{IsMarked}
+use Rattle.conflict_analysis.proofs.Resolving.{left_same}
+use Rattle.conflict_analysis.proofs.resolvent.Resolvent.mark_all.Goals as goal
+
+pub mark-requires-clause-is_false : goal.mark-requires-clause-is_false
+mark-requires-clause-is_false c =
+    subst (λ ys. IsFalseIn (literals_of ys) (get_or c.args.literals.now c.loop-literal.literal-index 0)) (left_same c.args.self.now c.loop-literal.self c.args.trail.now c.loop-literal.invariant.place)
+    (c.requires.all_false (get_or c.args.literals.now c.loop-literal.literal-index 0) (IsIn-place c.args.literals.now c.loop-literal.literal-index c.loop-literal-test.true))
+
+pub returns-clause-marked : goal.returns-clause-marked
+returns-clause-marked c = λ x i. (let at = place-IsIn c.args.literals.now x i in
+    subst (IsMarked c.loop-literal.self.marks.items) at.2 (c.loop-literal.invariant.marked at.0 (omega (arith, at.1, c.loop-literal-test.false))))

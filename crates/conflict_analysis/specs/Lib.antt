@@ -1,0 +1,6 @@
+pub mod Hints
+pub mod Learned
+pub mod Marks
+pub mod Resolvents
+pub mod Walks
+pub mod Analyses

@@ -1,0 +1,3 @@
+pub mod Opposites
+pub mod Members
+pub mod Consequence

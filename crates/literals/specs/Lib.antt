@@ -1,0 +1,4 @@
+pub mod Literal
+pub mod Truth
+pub mod Propagation
+pub mod Laws

@@ -1,0 +1,9 @@
+pub mod Consistency
+pub mod Watching
+pub mod Swapping
+pub mod Rest
+pub mod Same
+pub mod Visiting
+pub mod Settled
+pub mod Walk
+pub mod Start

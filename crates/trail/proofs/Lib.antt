@@ -1,0 +1,5 @@
+pub mod Lists
+pub mod Soundness
+pub mod Changes
+pub mod Lookup
+pub mod Back
