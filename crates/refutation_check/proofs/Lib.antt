@@ -1,0 +1,4 @@
+mod Table
+mod Trail
+mod JudgementLaws
+mod HintLaws

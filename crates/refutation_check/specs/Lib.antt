@@ -1,0 +1,4 @@
+pub mod LiveClauses
+pub mod Marked
+pub mod Judged
+pub mod Hints

@@ -1,0 +1,10 @@
+pub mod ArgPlaces
+pub mod Arguments
+pub mod Families
+pub mod Variables
+pub mod Instances
+pub mod LiteralNumbers
+pub mod Formulas
+pub mod NumberedClauses
+pub mod LiteralText
+pub mod Readable
