@@ -1,0 +1,4 @@
+pub mod Covering
+pub mod Tight
+pub mod FirstTakers
+pub mod Known

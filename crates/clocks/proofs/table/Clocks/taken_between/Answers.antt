@@ -1,0 +1,11 @@
+-- Through no thread is there a path.
+use Rattle.std.proofs.Common.{[], arith}
+use Rattle.clocks.proofs.Known.{none_taken_between}
+use Rattle.clocks.proofs.table.Clocks.taken_between.Goals as goal
+
+pub returns : goal.returns
+returns c = (
+  λ never. cc,
+  λ taken. absurd (none_taken_between c.args.self.now c.args.channel c.args.to (record { known = [] }) c.requires.made c.requires.second
+      (λ t few. c.loop-t.invariant t (omega arith)) taken),
+)

@@ -1,0 +1,5 @@
+//! Tests of the orders on actions.
+#![tactic(auto)]
+
+#[cfg(test)]
+mod unacted;

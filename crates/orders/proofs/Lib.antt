@@ -1,0 +1,12 @@
+pub mod Keys
+pub mod Alike
+pub mod Places
+pub mod Sync
+pub mod Edges
+pub mod Reaching
+pub mod Defaults
+pub mod Tabled
+pub mod Names
+pub mod Said
+pub mod Meeting
+pub mod Essential

@@ -1,0 +1,6 @@
+pub mod Symbols
+pub mod Flat
+pub mod Lists
+pub mod Tables
+pub mod Made
+pub mod Synced
