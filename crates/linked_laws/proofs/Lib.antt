@@ -1,0 +1,13 @@
+pub mod Calling
+pub mod Entries
+pub mod Instructions
+pub mod Listed
+pub mod Made
+pub mod Methods
+pub mod Monitors
+pub mod Ordered
+pub mod Pairs
+pub mod Ranged
+pub mod Resolved
+pub mod TypesOnPaths
+pub mod Variables

@@ -1,0 +1,6 @@
+-- The law.
+use Rattle.linked_laws.proofs.Monitors.{monitors_are_spelt}
+use Rattle.linked_laws.proofs.laws.monitors_are_spelt.Goals as goal
+
+pub returns : goal.returns
+returns c = monitors_are_spelt
