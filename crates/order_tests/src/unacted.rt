@@ -16,6 +16,10 @@ fn no_action(rt: HostRuntime) -> Result<(), Fail> {
         name: Name::copied(rt.alloc(), b"x")?,
     };
     assert!(rt; !all.po(&action, &action));
+    assert!(rt; !all.so(&action, &action));
+    assert!(rt; !all.so(&default, &action));
+    assert!(rt; !all.so(&default, &default));
+    assert!(rt; !all.so(&action, &default));
     assert!(rt; !all.hb(&action, &action));
     assert!(rt; !all.hb(&default, &action));
     assert!(rt; !all.hb(&action, &default));

@@ -10,3 +10,5 @@ pub mod Names
 pub mod Said
 pub mod Meeting
 pub mod Essential
+pub mod Volatile
+pub mod Ordered

@@ -4,3 +4,4 @@ pub mod Lists
 pub mod Tables
 pub mod Made
 pub mod Synced
+pub mod Volatiles

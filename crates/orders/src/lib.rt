@@ -9,6 +9,8 @@ mod flat;
 mod make;
 mod numbers;
 mod synced;
+mod synchronized;
+mod volatiles;
 
 pub use answers::Orders;
 pub use make::orders;

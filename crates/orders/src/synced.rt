@@ -33,7 +33,7 @@ fn is_target(class: &Name, name: &Name, action: &Action) -> bool
 
 impl<'a> Orders<'a> {
     /// The places of two actions in the synchronization order.
-    fn both_synced(&self, first: u64, second: u64) -> Option<(usize, usize)>
+    pub fn both_synced(&self, first: u64, second: u64) -> Option<(usize, usize)>
         requires { IsMade self.now }
         ensures found { IfSome result (λ places. AreSyncedAt self.now first second places.0 places.1) }
         ensures none { IfNone result (AreNotSynced self.now first second) }
