@@ -1,0 +1,3 @@
+pub mod ByIndex
+pub mod ByList
+pub mod Merge
