@@ -42,7 +42,8 @@ impl ClauseRef {
         self.number
     }
 
-    pub(crate) fn index(self) -> usize
+    /// The handle's number, which is below those of the pool.
+    pub fn index(self) -> usize
         ensures number { result ≡ self }
         ensures linkable { result < no_link }
     {

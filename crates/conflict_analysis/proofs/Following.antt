@@ -17,7 +17,7 @@ ends_start marks left clause all made within falses x i = falses x (all x i)
 pub ends_skip : (marks : List Bool) (s : Step) (older : List Step) (hints : List (List ℕ)) → EndsWith marks (s ∷ older) hints → EndsWith marks older hints
 ends_skip marks s older hints ends made within falses = ends made (λ x i. inr (within x i)) falses
 
-put_first : (made : List ℕ) (literal : ℕ) (reason : List ℕ) (hints : List (List ℕ)) → IsUnit made reason literal → EndsFalse (literal ∷ made) hints → EndsFalse made (reason ∷ hints)
+pub put_first : (made : List ℕ) (literal : ℕ) (reason : List ℕ) (hints : List (List ℕ)) → IsUnit made reason literal → EndsFalse (literal ∷ made) hints → EndsFalse made (reason ∷ hints)
 put_first made literal reason [] unit ends = absurd ends
 put_first made literal reason (next ∷ rest) unit ends = (literal, unit, ends)
 

@@ -5,3 +5,4 @@ pub mod Left
 pub mod Resolving
 pub mod Back
 pub mod Finishing
+pub mod Excluding

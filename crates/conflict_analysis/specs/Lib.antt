@@ -4,3 +4,4 @@ pub mod Marks
 pub mod Resolvents
 pub mod Walks
 pub mod Analyses
+pub mod Exclusions

@@ -1,5 +1,6 @@
 //! The analysis of a conflict, in memory that is taken once.
 
+use crate::exclusion::{put_decisions, put_reasons};
 use crate::hint::Hint;
 use crate::resolvent::Resolvent;
 use crate::walk::walk_back;
@@ -39,8 +40,11 @@ impl Model for Analysis {
 
 impl Analysis {
     ghost use Rattle.std.specs.Prelude.{◌≡◌, ◌*◌, ◌<◌, ◌^◌, IfOk};
+    ghost use Rattle.clause_pool.specs.PoolValue.{PoolValue};
+    ghost use Rattle.trail.specs.Steps.{IsSoundTrail};
     ghost use Rattle.propagation.specs.Ready.{IsFit, IsConflict};
     ghost use Rattle.conflict_analysis.specs.Learned.{IsLearned};
+    ghost use Rattle.conflict_analysis.specs.Exclusions.{IsExclusion};
     ghost use Rattle.conflict_analysis.specs.Analyses.{empty_analysis};
 
     /// An analysis for trails of so many variables. It takes all its memory here.
@@ -82,6 +86,18 @@ impl Analysis {
         walk_back(&mut self.resolvent, &mut self.hints, pool, trail);
         self.hints.reverse();
         self.resolvent.finish(trail)
+    }
+
+    /// Learns from a conflict that not all decisions are true.
+    pub fn exclude(&mut self, trail: &Trail, conflict: ClauseRef)
+        requires sound { IsSoundTrail trail.now }
+        requires literals { self.old.literals ≡ 2 * trail.now.variables }
+        ensures excluded { (pool : PoolValue) → IsFit pool trail.now → IsConflict pool trail.now conflict → IsExclusion pool trail.now self.new.learned self.new.hints }
+        ensures literals { self.new.literals ≡ self.old.literals }
+    {
+        put_decisions(&mut self.resolvent.learned, trail);
+        put_reasons(&mut self.hints, trail);
+        self.hints.push_reserved(Hint::Stored(conflict));
     }
 
     /// The literals of the clause that was learned last.

@@ -5,6 +5,7 @@
 #![tactic(auto)]
 
 mod analysis;
+mod exclusion;
 mod hint;
 mod resolvent;
 mod walk;

@@ -38,7 +38,7 @@ impl Model for DecisionOrder {
 }
 
 impl DecisionOrder {
-    ghost use Rattle.std.specs.Prelude.{◌≡◌, ◌<◌, ◌^◌, ℕ, IfOk, IfNone, IfSome, [], slice_set};
+    ghost use Rattle.std.specs.Prelude.{◌≡◌, ◌+◌, ◌<◌, ◌^◌, ℕ, IfOk, IfNone, IfSome, [], length, slice_set};
     ghost use Rattle.clause_pool.specs.PoolValue.{IsIn};
     ghost use Rattle.decision_order.specs.Waiting.{Stay, StayBut, phase_at};
 
@@ -70,6 +70,7 @@ impl DecisionOrder {
         ensures waited { IfSome result (λ variable. IsIn variable self.old.waiting) }
         ensures below { IfSome result (λ variable. variable < self.old.variables) }
         ensures others { IfSome result (StayBut self.old.waiting self.new.waiting) }
+        ensures fewer { IfSome result (λ variable. length self.new.waiting + 1 ≡ length self.old.waiting) }
         ensures unchanged { IfNone result (self.new ≡ self.old) }
         ensures variables { self.new.variables ≡ self.old.variables }
         ensures phases { self.new.phases ≡ self.old.phases }

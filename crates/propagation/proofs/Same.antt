@@ -10,7 +10,8 @@ use Rattle.clause_pool.proofs.Sound.{clause_at-set_same, clause_at-set_other}
 use Rattle.clause_pool.proofs.InUse.{length-swap_watched}
 use Rattle.trail.specs.Steps.{TrailValue, with_step}
 use Rattle.trail.specs.declared.step.Reason.TheVariants.{Clause}
-use Rattle.propagation.specs.Ready.{SameClause, IsSamePool, IsExtended}
+use Rattle.trail.specs.declared.step.Step.{Step}
+use Rattle.propagation.specs.Ready.{SameClause, IsSamePool, AreByClauses, IsExtended}
 
 SameClause-refl : (o : Option (List ℕ)) → SameClause o o
 SameClause-refl None = tt
@@ -58,15 +59,20 @@ IsSamePool-moved pool c literal at ls lt found p = record {
 }
 
 pub IsExtended-refl : (trail : TrailValue) → IsExtended trail trail
-IsExtended-refl trail = record { newer = []; splits = refl; decisions = refl; variables = refl }
+IsExtended-refl trail = record { newer = []; splits = refl; by_clauses = tt; decisions = refl; variables = refl }
+
+pub AreByClauses-append : (newer older : List Step) → AreByClauses newer → AreByClauses older → AreByClauses (newer ++ older)
+AreByClauses-append [] older n o = o
+AreByClauses-append (s ∷ newer) older n o = (n.0, AreByClauses-append newer older n.1 o)
 
 pub IsExtended-trans : (a b c : TrailValue) → IsExtended a b → IsExtended b c → IsExtended a c
 IsExtended-trans a b c p q = record {
   newer = q.newer ++ p.newer;
   splits = q.splits ∙ ap (λ ys. q.newer ++ ys) p.splits ∙ sym (append_assoc q.newer p.newer a.steps);
+  by_clauses = AreByClauses-append q.newer p.newer q.by_clauses p.by_clauses;
   decisions = q.decisions ∙ p.decisions;
   variables = q.variables ∙ p.variables;
 }
 
 pub IsExtended-step : (trail : TrailValue) (literal clause : ℕ) → IsExtended trail (with_step trail literal (Clause clause))
-IsExtended-step trail literal clause = record { newer = record { literal = literal; reason = Clause clause } ∷ []; splits = refl; decisions = refl; variables = refl }
+IsExtended-step trail literal clause = record { newer = record { literal = literal; reason = Clause clause } ∷ []; splits = refl; by_clauses = (tt, tt); decisions = refl; variables = refl }

@@ -1,11 +1,12 @@
 -- What holds of a pool and a trail before and after propagation.
-use Rattle.std.specs.Prelude.{◌≡◌, ◌≢◌, ℕ, ◌-◌, ◌*◌, ◌<◌, ◌≤◌, ⊤, List, ◌++◌, Option, Some, None, length, slice_index}
+use Rattle.std.specs.Prelude.{◌≡◌, ◌≢◌, ℕ, ◌-◌, ◌*◌, ◌<◌, ◌≤◌, ⊤, List, [], ◌∷◌, ◌++◌, Option, Some, None, length, slice_index}
 use Rattle.std.specs.List.Sorted.{IsPermutation}
 use Rattle.clause_pool.specs.PoolValue.{PoolValue, IsWatched, IsSound, clause_at, swap_watched}
 use Rattle.literals.specs.Propagation.{IsTrueIn, IsFalseIn, IsFalseClause, IsUnit}
 use Rattle.trail.specs.Steps.{TrailValue, IsSoundTrail, literals_of, decisions_of, level_of, back_to, with_step}
 use Rattle.trail.specs.declared.step.Step.{Step}
-use Rattle.trail.specs.declared.step.Reason.TheVariants.{Clause}
+use Rattle.trail.specs.declared.step.Reason.{Reason}
+use Rattle.trail.specs.declared.step.Reason.TheVariants.{Decision, Clause, Decisions}
 use Rattle.propagation.specs.Watches.{oldest, AreWatched, AreWatchedBelow, HaveReasons}
 use Rattle.propagation.specs.declared.visit.Visit.{Visit}
 use Rattle.propagation.specs.declared.visit.Visit.TheVariants.{Kept, Moved, Propagated, Conflict}
@@ -44,10 +45,21 @@ pub record IsSamePool (old new : PoolValue) : Type 0 where
   pub used : new.used ≡ old.used
   pub words : new.words ≡ old.words
 
--- steps were added, and none of them is a decision
+abbrev pub IsByClause : Reason → Type 0
+IsByClause Decision = ⊥
+IsByClause (Clause clause) = ⊤
+IsByClause Decisions = ⊥
+
+-- each step has a clause for its reason
+abbrev pub AreByClauses : List Step → Type 0
+AreByClauses [] = ⊤
+AreByClauses (step ∷ rest) = IsByClause step.reason × AreByClauses rest
+
+-- steps were added, and each of them by a clause
 pub record IsExtended (old new : TrailValue) : Type 0 where
   pub newer : List Step
   pub splits : new.steps ≡ newer ++ old.steps
+  pub by_clauses : AreByClauses newer
   pub decisions : decisions_of new.steps ≡ decisions_of old.steps
   pub variables : new.variables ≡ old.variables
 

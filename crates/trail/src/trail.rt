@@ -149,7 +149,7 @@ impl Trail {
     }
 
     /// Takes the newest step back, where there is one.
-    fn take_back(&mut self)
+    pub fn take_back(&mut self)
         ensures { self.new ≡ without_newest self.old }
     {
         let Some(step) = self.steps.pop() else {

@@ -1,0 +1,4 @@
+pub mod Values
+pub mod Keeping
+pub mod Returning
+pub mod Put
