@@ -164,9 +164,10 @@ module _ (bytes rest : List ℕ) (first : ℕ) (family : Family) (positive : Boo
       none (subst (λ (xs : List Arg). IsTrue (is_variable family xs)) (sym args_are)
       (subst (λ (f : Family). IsTrue (is_variable f lit.var.args)) found.0 literal.variable))
 
-  pub read-literal-bytes : (args : List Arg) (len : ℕ) → ReadsMore rest (arity family) [] args len
+  pub read-literal-bytes : (args : List Arg) (len : ℕ) → IsTrue (is_variable family args) → ReadsMore rest (arity family) [] args len
       → ReadsLiteral bytes (record { var = record { family = family; args = args }; positive = positive }) (len + 1)
-  read-literal-bytes args len read = record {
+  read-literal-bytes args len variable read = record {
+    fits = record { variable = variable; arguments = subst AreArguments (sym read.all_of) read.read.fit };
     within = rw is (omega (arith, read.read.within));
     bytes_of = rw (add-one, is)
         (ap (λ (byte : ℕ). byte ∷ take len rest) first_is

@@ -3,5 +3,5 @@ mod VariableLists
 mod NumberedLaws
 mod ReadingLaws
 mod FamilyLaws
-mod LiteralLaws
-mod ByteLaws
+pub mod LiteralLaws
+pub mod ByteLaws

@@ -54,6 +54,7 @@ HasNoArguments text before =
 
 -- bytes that begin with a literal, which takes so many of them
 pub record ReadsLiteral (bytes : List ℕ) (literal : Lit) (len : ℕ) : Type 0 where
+  pub fits : IsLiteral literal
   pub within : len ≤ length bytes
   pub bytes_of : take len bytes ≡ literal_bytes literal
 

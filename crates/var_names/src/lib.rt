@@ -7,7 +7,7 @@ pub mod byte_reading;
 pub mod family;
 pub mod formula;
 pub mod laws;
-mod numbers;
+pub mod numbers;
 pub mod reading;
 pub mod rule;
 pub mod spelling;
@@ -18,6 +18,7 @@ pub use assignment::Assignment;
 pub use byte_reading::read_lit_bytes;
 pub use family::{FAMILIES, Family};
 pub use formula::Formula;
+pub use numbers::number_of;
 pub use reading::{read_lit, read_number};
 pub use rule::{Rule, RuleClause, RuleRefusal, RuleSource};
 pub use spelling::{

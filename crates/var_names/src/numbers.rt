@@ -21,8 +21,12 @@ fn place_of(variables: &mut IndexSet<Var>, var: Var) -> Result<usize, Memory>
     }
 }
 
-/// The number of a literal among these variables, to which its variable is added where it is new.
-pub(crate) fn number_of(variables: &mut IndexSet<Var>, lit: &Lit) -> Result<u32, Memory>
+/// The number of a literal among these variables, to which its variable is added where it is new, on condition that they
+/// are fewer than 2^31 - 1.
+///
+/// # Errors
+/// `Memory` where there is no room. Then the variables are what they were.
+pub fn number_of(variables: &mut IndexSet<Var>, lit: &Lit) -> Result<u32, Memory>
     requires { length variables.old.keys + 1 < 2 ^ 31 }
     ensures added { OnOk result (AddsVariable variables.old.keys lit.now.var variables.new.keys) }
     ensures number { IfOk result (λ n. lit_of variables.new.keys n ≡ lit.now) }

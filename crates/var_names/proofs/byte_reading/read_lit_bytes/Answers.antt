@@ -23,5 +23,5 @@ pub returns : goal.returns
 returns c =
     rw c.in_ok-var.ensures.1
     (read-literal-bytes c.args.bytes.now c.in_ok-first.rest.now c.in_ok-first.first.now c.in_ok-family.family c.in_ok-family.positive
-    c.in_ok-first.ensures.cases.0 c.in_ok-family.ensures c.in_ok-args.args c.in_ok-args.len
+    c.in_ok-first.ensures.cases.0 c.in_ok-family.ensures c.in_ok-args.args c.in_ok-args.len c.in_ok-var.ensures.0
     (rw (c.arity.ensures, c.new.ensures) at c.in_ok-args.ensures))
