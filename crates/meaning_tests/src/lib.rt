@@ -2,6 +2,8 @@
 #![tactic(auto)]
 
 #[cfg(test)]
+mod code_steps;
+#[cfg(test)]
 mod executions;
 #[cfg(test)]
 mod ints;

@@ -11,12 +11,12 @@ use std::process::Abort;
 use std::test::Fail;
 use thread_meaning::{Trace, TraceEnd, trace};
 
-const MAIN: MethodId = MethodId {
+pub const MAIN: MethodId = MethodId {
     class: 0,
     method: 0,
 };
 
-const HELP: MethodId = MethodId {
+pub const HELP: MethodId = MethodId {
     class: 0,
     method: 1,
 };
@@ -27,7 +27,7 @@ const WIDE: Bounds = Bounds {
 };
 
 /// A frame of a method with this many parameters, synchronized on this monitor.
-fn frame(parameters: u32, monitor: Option<u32>) -> Frame {
+pub fn frame(parameters: u32, monitor: Option<u32>) -> Frame {
     Frame {
         max_locals: 3,
         max_stack: 4,
@@ -77,7 +77,7 @@ fn alone(rt: &impl Abort, alloc: Global, code: &[(Instr, Operand)]) -> Result<Pr
 }
 
 /// A program whose main calls a method.
-fn calling(
+pub fn calling(
     rt: &impl Abort,
     alloc: Global,
     code: &[(Instr, Operand)],

@@ -16,7 +16,7 @@ mod tracing;
 mod value;
 mod walk;
 
-pub use code::Here;
+pub use code::{Here, look};
 pub use doing::{Binary, Comparison, Doing, Test, Unary};
 pub use effect::Effect;
 pub use end::TraceEnd;
