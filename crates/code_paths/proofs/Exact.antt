@@ -17,7 +17,7 @@ use Rattle.code_paths.specs.declared.place.CodePlace.{CodePlace}
 -- ---- Instructions
 
 -- what is found at a place stands there
-stands : (p : Prog) (at : CodePlace) (here : Here) → IsHere p at.method at.pc here → StandsAt p (place_of at) here.instr here.names
+pub stands : (p : Prog) (at : CodePlace) (here : Here) → IsHere p at.method at.pc here → StandsAt p (place_of at) here.instr here.names
 stands p at here is = record { method = is.method; is_method = is.the_method.is_method; instruction = is.inside.instruction }
 
 pub record SameThere (instr found : Instr) (names found_names : Operand) : Type 0 where
@@ -25,7 +25,7 @@ pub record SameThere (instr found : Instr) (names found_names : Operand) : Type 
   pub names_is : names ≡ found_names
 
 -- and nothing else does
-alone : (p : Prog) (at : CodePlace) (here : Here) (instr : Instr) (names : Operand) → IsHere p at.method at.pc here → StandsAt p (place_of at) instr names →
+pub alone : (p : Prog) (at : CodePlace) (here : Here) (instr : Instr) (names : Operand) → IsHere p at.method at.pc here → StandsAt p (place_of at) instr names →
     SameThere instr here.instr names here.names
 alone p at here instr names is other =
     let P : Method → Type 0 = λ m. IsInstruction m at.pc instr names in
@@ -33,7 +33,7 @@ alone p at here instr names is other =
     (subst P (sym (is.the_method.only other.method other.is_method)) other.instruction) is.inside.instruction in
     record { instr_is = one.instr; names_is = one.names }
 
-nothing : (p : Prog) (at : CodePlace) (instr : Instr) (names : Operand) → NothingAt p at.method at.pc → StandsAt p (place_of at) instr names → ⊥
+pub nothing : (p : Prog) (at : CodePlace) (instr : Instr) (names : Operand) → NothingAt p at.method at.pc → StandsAt p (place_of at) instr names → ⊥
 nothing p at instr names none other = none other.method other.is_method instr names other.instruction
 
 -- ---- Out of a method

@@ -10,4 +10,6 @@ mod ints;
 #[cfg(test)]
 mod programs;
 #[cfg(test)]
+mod reached;
+#[cfg(test)]
 mod traces;

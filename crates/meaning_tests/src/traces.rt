@@ -67,7 +67,7 @@ fn method(
 }
 
 /// A program whose threads all run main, which has this code.
-fn alone(rt: &impl Abort, alloc: Global, code: &[(Instr, Operand)]) -> Result<Program, Fail>
+pub fn alone(rt: &impl Abort, alloc: Global, code: &[(Instr, Operand)]) -> Result<Program, Fail>
     ensures { IfOk result (λ p. length p.threads ≡ 1) }
 {
     let mut program = Program::new(alloc);

@@ -1,0 +1,4 @@
+pub mod Chains
+pub mod Leading
+pub mod Order
+pub mod Spots
