@@ -87,7 +87,7 @@ module _ (spots : List Spot) (spot : Spot) where
           let e : Greater ≡ Equal = sym (above there.0 spot behind there.1) ∙ ap (λ (y : Spot). spot_cmp y spot) there.2 ∙ itself in
           cc
 
-  sorted_far : (xs : List Spot) → IsStrictlySortedBy spot_cmp xs → (i j : ℕ) (d : Spot) → i < j → j < length xs → spot_cmp (get_or xs i d) (get_or xs j d) ≡ Less
+  pub sorted_far : (xs : List Spot) → IsStrictlySortedBy spot_cmp xs → (i j : ℕ) (d : Spot) → i < j → j < length xs → spot_cmp (get_or xs i d) (get_or xs j d) ≡ Less
   sorted_far [] sorted i j d before within = absurd (omega arith)
   sorted_far (x ∷ xs) sorted i zero d before within = absurd (omega arith)
   sorted_far (x ∷ xs) sorted zero (suc j) d before within = All-after_first spot_cmp x xs sorted j d (omega arith)
@@ -109,3 +109,27 @@ module _ (spots : List Spot) (spot : Spot) where
       by (inl less) more = absurd (apart i j first second less)
       by (inr least) (inl less) = absurd (apart j i second first less)
       by (inr least) (inr most) = omega arith
+
+-- a later spot stands at a later place
+pub sorted_at : (spots : List Spot) → IsStrictlySortedBy spot_cmp spots → (i j : ℕ) (a b : Spot) → slice_get spots i ≡ Some a → slice_get spots j ≡ Some b → spot_cmp a b ≡ Less → i < j
+sorted_at spots sorted i j a b first second less = by (cases_lt i j)
+  where
+    x : get_or spots i a ≡ a
+    x = get_or_from_slice_get spots i a a first
+
+    y : get_or spots j a ≡ b
+    y = get_or_from_slice_get spots j b a second
+
+    behind : (j < i) ⊎ (i ≤ j) → j ≤ i → ⊥
+    behind (inl before) least =
+        let e : Less ≡ Greater = sym (sorted_far spots a spots sorted j i a before (slice_get_within spots i a first)) ∙ (λ t. spot_cmp (y t) (x t)) ∙ spot_total.antisymm b a ∙ ap ordering_reverse less in
+        cc
+    behind (inr most) least =
+        let same : i ≡ j = omega arith in
+        let one : a ≡ b = sym x ∙ ap (λ n. get_or spots n a) same ∙ y in
+        let e : Less ≡ Equal = sym less ∙ ap (spot_cmp a) (sym one) ∙ tied_itself spot_total a in
+        cc
+
+    by : (i < j) ⊎ (j ≤ i) → i < j
+    by (inl before) = before
+    by (inr least) = absurd (behind (cases_lt j i) least)

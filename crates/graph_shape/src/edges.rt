@@ -13,8 +13,8 @@ use spots::{Lead, Spot, leads_from};
 use std::alloc::Global;
 use std::collections::BTreeSet;
 
-/// The place of a spot in a list that is in order.
-fn place_of(spots: &[Spot], spot: &Spot) -> Option<u32>
+/// The place of a spot in a list that is in order; None where it is not there.
+pub fn place_of(spots: &[Spot], spot: &Spot) -> Option<u32>
     requires ordered { IsStrictlySortedBy spot_cmp spots.now }
     requires few { length spots.now ≤ code_nodes }
     ensures some { IfSome result (λ place. slice_get spots.now place ≡ Some spot.now) }

@@ -6,4 +6,4 @@ mod edges;
 pub mod laws;
 
 pub use edge::Edge;
-pub use edges::edges_among;
+pub use edges::{edges_among, place_of};

@@ -3,6 +3,7 @@
 use crate::traces::{HELP, MAIN, alone, calling, frame};
 use code_paths::CodePlace;
 use graph_shape::{Edge, edges_among};
+use kept_spots::marked_spots;
 use opcodes::Instr;
 use program::{MethodId, Operand};
 use reached_spots::{ReachRefusal, Reached, reached_spots};
@@ -161,5 +162,22 @@ fn edges_in_order(rt: HostRuntime) -> Result<(), Fail> {
         edge(7, true, 8),
     ];
     assert!(rt; edges.as_slice() == expected.as_slice());
+    Ok(())
+}
+
+#[test]
+fn ways_to_the_end(rt: HostRuntime) -> Result<(), Fail> {
+    let alloc = rt.alloc();
+    let code = [
+        (Instr::Iconst0, Operand::Constant(0)),
+        (Instr::Ifeq { distance: 4 }, Operand::Nothing),
+        (Instr::Return, Operand::Nothing),
+        (Instr::Goto { distance: 0 }, Operand::Nothing),
+    ];
+    let program = alone(&rt, alloc, &code)?;
+    let marked = marked_spots(alloc, &program, 0)?;
+    assert_eq!(rt; marked.spots.len(), 6);
+    assert!(rt; marked.left_out);
+    assert!(rt; marked.ends.as_slice() == [true, true, true, true, false, true].as_slice());
     Ok(())
 }

@@ -1,1 +1,1 @@
-mod Transport
+pub mod Transport

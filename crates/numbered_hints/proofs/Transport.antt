@@ -22,7 +22,7 @@ parity : (m : ℕ) → (m % 2 ≡ 0) ⊎ (m % 2 ≡ 1)
 parity m = grind arith
 
 module _ (variables : List Variable) (apart : AllPairs ◌≢◌ variables) where
-  same-place : (i j : ℕ) → i < length variables → j < length variables → get_or variables i no_variable ≡ get_or variables j no_variable → i ≡ j
+  pub same-place : (i j : ℕ) → i < length variables → j < length variables → get_or variables i no_variable ≡ get_or variables j no_variable → i ≡ j
   same-place i j in_i in_j same = by (split i j)
     where
       by : (i < j) ⊎ ((j < i) ⊎ (i ≡ j)) → i ≡ j
@@ -44,13 +44,13 @@ module _ (variables : List Variable) (apart : AllPairs ◌≢◌ variables) wher
           let other = eqb-true (m % 2) 0 (same ∙ even) in absurd (omega (arith, a, other))
 
   -- different numbers are different literals
-  one-number : (m n : ℕ) → m < 2 * length variables → n < 2 * length variables → lit_of variables m ≡ lit_of variables n → m ≡ n
+  pub one-number : (m n : ℕ) → m < 2 * length variables → n < 2 * length variables → lit_of variables m ≡ lit_of variables n → m ≡ n
   one-number m n low_m low_n same =
       let half = same-place (m / 2) (n / 2) (omega (arith, low_m)) (omega (arith, low_n)) (ap (λ (l : Lit). l.var) same) in
       let sign = same-parity m n (ap (λ (l : Lit). l.positive) same) in
       omega (arith, half, sign)
 
-  negation-number : (n : ℕ) → negation (lit_of variables n) ≡ lit_of variables (negation_of n)
+  pub negation-number : (n : ℕ) → negation (lit_of variables n) ≡ lit_of variables (negation_of n)
   negation-number n = by (parity n)
     where
       by : (n % 2 ≡ 0) ⊎ (n % 2 ≡ 1) → negation (lit_of variables n) ≡ lit_of variables (negation_of n)
@@ -65,34 +65,34 @@ module _ (variables : List Variable) (apart : AllPairs ◌≢◌ variables) wher
           let even : nat_eq ((n - 1) % 2) 0 ≡ true = eq-eqb ((n - 1) % 2) 0 (omega (arith, odd)) in
           rw (now, half, even) refl
 
-  negation-below : (n : ℕ) → n < 2 * length variables → negation_of n < 2 * length variables
+  pub negation-below : (n : ℕ) → n < 2 * length variables → negation_of n < 2 * length variables
   negation-below n low = by (parity n)
     where
       by : (n % 2 ≡ 0) ⊎ (n % 2 ≡ 1) → negation_of n < 2 * length variables
       by (inl even) = let now : nat_eq (n % 2) 0 ≡ true = eq-eqb (n % 2) 0 even in rw now (omega (arith, even, low))
       by (inr odd) = let now : nat_eq (n % 2) 0 ≡ false = grind arith in rw now (omega (arith, low))
 
-  get-map : (ns : List ℕ) (k : ℕ) (d : ℕ) (e : Lit) → k < length ns → get_or (map (lit_of variables) ns) k e ≡ lit_of variables (get_or ns k d)
+  pub get-map : (ns : List ℕ) (k : ℕ) (d : ℕ) (e : Lit) → k < length ns → get_or (map (lit_of variables) ns) k e ≡ lit_of variables (get_or ns k d)
   get-map [] k d e within = absurd (omega (arith, within))
   get-map (n ∷ ns) zero d e within = refl
   get-map (n ∷ ns) (suc k) d e within = get-map ns k d e (omega (arith, within))
 
-  contains-literal : (ns : List ℕ) (n : ℕ) → Contains ns n → Contains (map (lit_of variables) ns) (lit_of variables n)
+  pub contains-literal : (ns : List ℕ) (n : ℕ) → Contains ns n → Contains (map (lit_of variables) ns) (lit_of variables n)
   contains-literal ns n at =
       (at.0, rw length-map at.1, get-map ns at.0 n (lit_of variables n) at.1 ∙ ap (lit_of variables) at.2)
 
   -- a literal of a list is that of a number of it
-  number-of : (ns : List ℕ) (l : Lit) → Contains (map (lit_of variables) ns) l → (n : ℕ) × (Contains ns n × (lit_of variables n ≡ l))
+  pub number-of : (ns : List ℕ) (l : Lit) → Contains (map (lit_of variables) ns) l → (n : ℕ) × (Contains ns n × (lit_of variables n ≡ l))
   number-of [] l at = absurd (omega (arith, at.1))
   number-of (m ∷ ns) l (zero, within, is) = (m, ((0, omega arith, refl), is))
   number-of (m ∷ ns) l (suc k, within, is) =
       let found = number-of ns l (k, omega (arith, within), is) in
       (found.0, ((suc found.1.0.0, omega (arith, found.1.0.1), found.1.0.2), found.1.1))
 
-  at-all : (P : ℕ → Type 0) (xs : List ℕ) (x : ℕ) → All P xs → Contains xs x → P x
+  pub at-all : (P : ℕ → Type 0) (xs : List ℕ) (x : ℕ) → All P xs → Contains xs x → P x
   at-all P xs x all there = subst P there.2 (all there.0 x there.1)
 
-  contains-number : (ns : List ℕ) (n : ℕ) → All (λ k. k < 2 * length variables) ns → n < 2 * length variables
+  pub contains-number : (ns : List ℕ) (n : ℕ) → All (λ k. k < 2 * length variables) ns → n < 2 * length variables
       → Contains (map (lit_of variables) ns) (lit_of variables n) → Contains ns n
   contains-number ns n below low at =
       let found = number-of ns (lit_of variables n) at in
@@ -100,20 +100,20 @@ module _ (variables : List Variable) (apart : AllPairs ◌≢◌ variables) wher
       subst (Contains ns) is found.1.0
 
   -- two lists with the same literals
-  abbrev Alike : List Lit → List Lit → Type 0
+  abbrev pub Alike : List Lit → List Lit → Type 0
   Alike xs ys = (l : Lit) → (Contains xs l → Contains ys l) × (Contains ys l → Contains xs l)
 
-  false-literal : (T : List Lit) (trues : List ℕ) → Alike T (map (lit_of variables) trues) → (n : ℕ) → IsFalseNumber trues n → IsFalseIn T (lit_of variables n)
+  pub false-literal : (T : List Lit) (trues : List ℕ) → Alike T (map (lit_of variables) trues) → (n : ℕ) → IsFalseNumber trues n → IsFalseIn T (lit_of variables n)
   false-literal T trues alike n at =
       subst (λ (l : Lit). Contains T l) (sym (negation-number n)) ((alike (lit_of variables (negation_of n))).1 (contains-literal trues (negation_of n) at))
 
-  number-false : (T : List Lit) (trues : List ℕ) → Alike T (map (lit_of variables) trues) → All (λ k. k < 2 * length variables) trues → (n : ℕ)
+  pub number-false : (T : List Lit) (trues : List ℕ) → Alike T (map (lit_of variables) trues) → All (λ k. k < 2 * length variables) trues → (n : ℕ)
       → n < 2 * length variables → IsFalseIn T (lit_of variables n) → IsFalseNumber trues n
   number-false T trues alike below n low at =
       contains-number trues (negation_of n) below (negation-below n low)
       ((alike (lit_of variables (negation_of n))).0 (subst (λ (l : Lit). Contains T l) (negation-number n) at))
 
-  unit-literal : (T : List Lit) (trues clause : List ℕ) (unit : ℕ) → Alike T (map (lit_of variables) trues) → All (λ k. k < 2 * length variables) trues
+  pub unit-literal : (T : List Lit) (trues clause : List ℕ) (unit : ℕ) → Alike T (map (lit_of variables) trues) → All (λ k. k < 2 * length variables) trues
       → All (λ k. k < 2 * length variables) clause → IsUnitNumber trues clause unit → IsUnit T (map (lit_of variables) clause) (lit_of variables unit)
   unit-literal T trues clause unit alike below low is = record {
     stands = contains-literal clause unit is.stands;
@@ -132,20 +132,20 @@ module _ (variables : List Variable) (apart : AllPairs ◌≢◌ variables) wher
           subst (λ (l : Lit). IsFalseIn T l) found.1.1
           (false-literal T trues alike found.0 (at-all (λ n. n ≢ unit → IsFalseNumber trues n) clause found.0 is.others found.1.0 number))
 
-  live-literal : (clauses : List (Option (List ℕ))) (hint : ℕ) (clause : List ℕ) → IsLiveClause clauses hint clause
+  pub live-literal : (clauses : List (Option (List ℕ))) (hint : ℕ) (clause : List ℕ) → IsLiveClause clauses hint clause
       → IsLive (literals_of variables clauses) hint (map (lit_of variables) clause)
   live-literal clauses hint clause live = record {
     some = live.some;
     stands = slice_get-map (option_map (map (lit_of variables))) clauses (hint - 1) ∙ rw live.stands refl;
   }
 
-  all-false : (T : List Lit) (trues clause : List ℕ) → Alike T (map (lit_of variables) trues) → All (IsFalseNumber trues) clause
+  pub all-false : (T : List Lit) (trues clause : List ℕ) → Alike T (map (lit_of variables) trues) → All (IsFalseNumber trues) clause
       → All (IsFalseIn T) (map (lit_of variables) clause)
   all-false T trues clause alike all = λ k d within.
       let low : k < length clause = subst (λ (n : ℕ). k < n) (length-map clause (lit_of variables)) within in
       subst (λ (l : Lit). IsFalseIn T l) (sym (get-map clause k 0 d low)) (false-literal T trues alike (get_or clause k 0) (all k 0 low))
 
-  map-push : (ns : List ℕ) (n : ℕ) → map (lit_of variables) (ns ++ n ∷ []) ≡ map (lit_of variables) ns ++ lit_of variables n ∷ []
+  pub map-push : (ns : List ℕ) (n : ℕ) → map (lit_of variables) (ns ++ n ∷ []) ≡ map (lit_of variables) ns ++ lit_of variables n ∷ []
   map-push [] n = refl
   map-push (m ∷ ns) n = ap (λ (rest : List Lit). lit_of variables m ∷ rest) (map-push ns n)
 

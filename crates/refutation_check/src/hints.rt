@@ -22,7 +22,10 @@ pub enum HintRefusal {
 }
 
 /// The last hint: its clause is to be false.
-fn last_hint(live: &LiveClauses, marks: &Marks, hint: u64) -> Result<(), HintRefusal>
+///
+/// # Errors
+/// The fault of the hint.
+pub fn last_hint(live: &LiveClauses, marks: &Marks, hint: u64) -> Result<(), HintRefusal>
     ensures { MatchResult result (λ _. IsGoodHint live.now marks.now hint None) (IsHintFault live.now marks.now true hint) }
 {
     let Some(clause) = live.get(hint) else {
@@ -35,8 +38,11 @@ fn last_hint(live: &LiveClauses, marks: &Marks, hint: u64) -> Result<(), HintRef
     }
 }
 
-/// A hint before the last: its clause is to have one literal that is open, and the others false.
-fn unit_of_hint(live: &LiveClauses, marks: &Marks, hint: u64) -> Result<u32, HintRefusal>
+/// A hint before the last: its clause is to have one literal that is open, and the others false. Answers that literal.
+///
+/// # Errors
+/// The fault of the hint.
+pub fn unit_of_hint(live: &LiveClauses, marks: &Marks, hint: u64) -> Result<u32, HintRefusal>
     ensures { MatchResult result (λ unit. IsGoodHint live.now marks.now hint (Some unit)) (IsHintFault live.now marks.now false hint) }
 {
     let Some(clause) = live.get(hint) else {

@@ -1,4 +1,4 @@
-//! The check of refutations: so far the clauses that are live, by number.
+//! What a check of refutations does by number: the clauses that are live, marks, unit propagation along hints.
 #![tactic(auto)]
 
 pub mod hints;
@@ -6,7 +6,7 @@ pub mod judging;
 pub mod live;
 pub mod marks;
 
-pub use hints::{HintRefusal, follow};
+pub use hints::{HintRefusal, follow, last_hint, unit_of_hint};
 pub use judging::{Judgement, judge, negation};
 pub use live::{LiteralNumbers, LiveClauses};
 pub use marks::Marks;

@@ -7,5 +7,6 @@ pub mod put;
 
 pub use line::{ClauseNumbers, Line};
 pub use put::{
-    NumberedLiterals, put_deletion, put_header, put_instance, put_line, put_numbered_clause,
+    NumberedLiterals, put_counted, put_deletion, put_header, put_instance, put_line,
+    put_numbered_clause,
 };

@@ -33,8 +33,11 @@ impl Spelling<u32> for NumberedLiterals<'_> {
     }
 }
 
-/// Puts how many items there are, and then their bytes.
-fn put_counted<X, W: Spelling<X>, S: Sink>(
+/// Puts how many items there are, and then their bytes. Where it failed, a prefix of that was put.
+///
+/// # Errors
+/// `Failed` only where the sink's count of faults rose.
+pub fn put_counted<X, W: Spelling<X>, S: Sink>(
     spelling: &W,
     out: &mut S,
     items: &[X],

@@ -1,6 +1,8 @@
-//! Tests of formulas, of the texts of literals, of the lines of refutations and of hints.
+//! Tests of formulas, of the texts of literals, of the lines of refutations, of hints and of refutations in bytes.
 #![tactic(auto)]
 
+#[cfg(test)]
+mod checks;
 #[cfg(test)]
 mod formulas;
 #[cfg(test)]
@@ -9,3 +11,4 @@ mod hints;
 mod lines;
 #[cfg(test)]
 mod literals;
+pub mod small;

@@ -1,7 +1,7 @@
 mod Equal
-mod VariableLists
+pub mod VariableLists
 mod NumberedLaws
 mod ReadingLaws
-mod FamilyLaws
+pub mod FamilyLaws
 pub mod LiteralLaws
 pub mod ByteLaws

@@ -10,8 +10,8 @@ use crate::family::{FAMILIES, Family};
 use crate::var::{Lit, Var};
 use texts::read_seven_bits;
 
-/// The argument of a number: one less, or the default write.
-fn argument_of(number: u128) -> Option<Arg>
+/// The argument of a number in bytes: one less, or the default write; `None` exactly where there is none.
+pub fn argument_of(number: u128) -> Option<Arg>
     ensures { MatchOption result ((argument : Arg) → IsArgument argument → number ≢ argument_number argument)
         (λ argument. IsArgument argument × (number ≡ argument_number argument)) }
 {

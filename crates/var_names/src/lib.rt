@@ -15,7 +15,7 @@ pub mod var;
 
 pub use args::{Arg, Args};
 pub use assignment::Assignment;
-pub use byte_reading::read_lit_bytes;
+pub use byte_reading::{argument_of, read_lit_bytes};
 pub use family::{FAMILIES, Family};
 pub use formula::Formula;
 pub use numbers::number_of;

@@ -1,0 +1,6 @@
+mod Announced
+mod RuleLaws
+mod ClauseLaws
+mod DeletionLaws
+mod ItemLaws
+mod TextLaws

@@ -1,0 +1,4 @@
+pub mod Items
+pub mod Taken
+pub mod Refused
+pub mod Texts

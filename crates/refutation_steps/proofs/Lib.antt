@@ -1,0 +1,5 @@
+pub mod Lists
+mod Converse
+mod TableLaws
+mod WordLaws
+pub mod HintLaws

@@ -1,0 +1,4 @@
+pub mod HintSteps
+pub mod Tables
+pub mod RuleWords
+pub mod Instances
