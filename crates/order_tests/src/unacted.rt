@@ -1,6 +1,7 @@
 //! The orders of an execution in which no thread acts.
 
 use action_orders::{ActionRef, Execution};
+use mutual_exclusion::check_locks;
 use orders::orders;
 use program::{Name, Program};
 use std::test::Fail;
@@ -27,5 +28,6 @@ fn no_action(rt: HostRuntime) -> Result<(), Fail> {
     assert!(rt; !all.sw(&default, &action));
     assert!(rt; !all.ssw(&action, &action));
     assert!(rt; !all.ssw(&default, &action));
+    assert!(rt; check_locks(rt.alloc(), &all)?.is_none());
     Ok(())
 }

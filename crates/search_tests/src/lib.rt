@@ -8,6 +8,8 @@ mod decisions;
 #[cfg(test)]
 mod literals_as_numbers;
 #[cfg(test)]
+mod logs;
+#[cfg(test)]
 mod pool;
 #[cfg(test)]
 mod trails;
