@@ -211,11 +211,18 @@ literals-missing clauses count bytes reason few lacks =
     let parts = number-then count (length literals) bytes (flat_map literal_bytes literals ++ rest) few readable.0 (same ∙ clause-parts literals rest) in
     lacks.1 literals rest (sym parts.0) readable.1 clause parts.1))
 
-pub hint-count-missing : (clauses : Clauses) (literals : List Lit) (bytes : List ℕ) (reason : Reason) → LacksNumber bytes reason
-    → IsWrongClause clauses (counted literal_bytes literals ++ bytes) reason
-hint-count-missing clauses literals bytes reason lacks =
+pub hint-count-missing : (clauses : Clauses) (literals : List Lit) (count : ℕ) (bytes : List ℕ) (reason : Reason) → IsShort count → length literals ≡ count
+    → All IsLiteral literals → IsClause literals → LacksNumber bytes reason → IsWrongClause clauses (counted literal_bytes literals ++ bytes) reason
+hint-count-missing clauses literals count bytes reason few many fit clause lacks =
     for-form (IsWrongClause clauses (counted literal_bytes literals ++ bytes)) reason lacks.1
-    (inr (inl (record { literals = literals; rest = bytes; begins = refl; none = lacks.0 })))
+    (inr (inl (record {
+      literals = literals;
+      readable = (subst IsShort (sym many) few, fit);
+      is_clause = clause;
+      rest = bytes;
+      begins = refl;
+      none = lacks.0;
+    })))
 
 -- the hints of a clause are wrong
 module _ (clauses : Clauses) (literals : List Lit) (count announced : ℕ) (few : IsShort count) (short : IsShort announced) (many : length literals ≡ count)

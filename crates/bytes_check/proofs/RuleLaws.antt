@@ -27,7 +27,7 @@ use Rattle.refutation_items.specs.Refusals.{IsRefusedFor}
 use Rattle.refutation_items.proofs.Refusing.{takes-as, takes-then, told-taken}
 use Rattle.refutation_steps.specs.Instances.{AddsInstance, IsNoInstance, NamesNone}
 use Rattle.refutation_steps.specs.RuleWords.{AreWordsOf, NamesArgument, NamesArguments, NamesRule}
-use Rattle.bytes_check.specs.Items.{IsShort, IsWrongRule, rule_bytes}
+use Rattle.bytes_check.specs.Items.{AreReadable, IsShort, IsWrongRule, rule_bytes}
 use Rattle.bytes_check.specs.Refused.{IsRuleRefusal}
 use Rattle.bytes_check.specs.Taken.{LacksArguments, TakesArguments, TakesInstance}
 use Rattle.bytes_check.proofs.Announced.{flat_map-push, next-item, number-one, number-then}
@@ -102,9 +102,10 @@ arguments-missing instances number count bytes reason few few_count lacks =
     let counts = number-then count (length arguments) bytes (flat_map seven_bits arguments ++ rest) few_count readable.0 parts.1 in
     lacks.1 arguments rest (sym counts.0) readable.1 counts.1)
 
-pub bad-rule : (instances : List RuledClause) (number : ℕ) (arguments rest : List ℕ) → NamesNone (λ n. n) argument_number instances number arguments
-    → IsWrongRule instances (rule_bytes number arguments ++ rest) BadRule
-bad-rule instances number arguments rest none = record { number = number; arguments = arguments; rest = rest; begins = refl; names_none = none }
+pub bad-rule : (instances : List RuledClause) (number : ℕ) (arguments rest : List ℕ) → IsShort number → AreReadable IsShort arguments
+    → NamesNone (λ n. n) argument_number instances number arguments → IsWrongRule instances (rule_bytes number arguments ++ rest) BadRule
+bad-rule instances number arguments rest short readable none =
+    record { number = number; arguments = arguments; rest = rest; short = short; readable = readable; begins = refl; names_none = none }
 
 -- the argument of a number, as the word of a line
 pub named-argument : (number : ℕ) (argument : Option Arg)
@@ -137,6 +138,7 @@ same-rule number words a b of_a of_b =
 
 -- a whole item of a rule
 module _ (instances : List RuledClause) (old a b c : Option (List ℕ)) (number count : ℕ) (args : Option (List Arg)) (named : Option Rule)
+    (short : IsShort number) (few : IsShort count)
     (head : Takes old a (seven_bits number)) (middle : Takes a b (seven_bits count)) (takes : TakesArguments b c count args)
     (names : NamesRule (λ n. n) argument_number number takes.words named) where
   whole : Takes old c (rule_bytes number takes.words)
@@ -164,10 +166,13 @@ module _ (instances : List RuledClause) (old a b c : Option (List ℕ)) (number 
   none-named (Some rule) are none = λ other literals real words instance.
       none literals (subst (λ (r : Rule). IsInstance instances r literals) (same-rule number takes.words other rule words are) instance)
 
+  readable : AreReadable IsShort takes.words
+  readable = (subst IsShort (sym takes.count_of) few, takes.short)
+
   pub rule-refused : (causes : ReadRefusal → Type 0) (refusal : RuleRefusal) (line : LineRefusal) → causes NoRoom → IsRuleRefusal refusal line
       → IsNoInstance instances named refusal → IsRefusedFor causes old (IsWrongRule instances) line
   rule-refused causes NoInstance line free is none =
       subst (IsRefusedFor causes old (IsWrongRule instances)) (sym is)
       (told-taken old c (rule_bytes number takes.words) (λ bytes. IsWrongRule instances bytes BadRule) whole
-      (λ bytes. bad-rule instances number takes.words bytes (none-named named names none)))
+      (λ bytes. bad-rule instances number takes.words bytes short readable (none-named named names none)))
   rule-refused causes NoRoomForRule line free is none = subst (IsRefusedFor causes old (IsWrongRule instances)) (sym is) free

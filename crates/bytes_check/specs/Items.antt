@@ -39,6 +39,8 @@ pub record BeginsBadRule (instances : List RuledClause) (bytes : List ℕ) : Typ
   pub number : ℕ
   pub arguments : List ℕ
   pub rest : List ℕ
+  pub short : IsShort number
+  pub readable : AreReadable IsShort arguments
   pub begins : bytes ≡ rule_bytes number arguments ++ rest
   pub names_none : NamesNone (λ n. n) argument_number instances number arguments
 
@@ -64,7 +66,7 @@ pub record BeginsClause (clauses : Clauses) (bytes : List ℕ) (announced : ℕ)
   pub followed : FollowsAll clauses (map negation literals) hints now
   pub begins : bytes ≡ counted literal_bytes literals ++ seven_bits announced ++ flat_map seven_bits hints ++ rest
 
--- behind a clause there is no number of hints, or not so many hints follow
+-- behind a clause not so many hints follow as are announced
 pub record BreaksOff (clauses : Clauses) (bytes : List ℕ) : Type 0 where
   pub announced : ℕ
   pub hints : List ℕ
@@ -74,8 +76,11 @@ pub record BreaksOff (clauses : Clauses) (bytes : List ℕ) : Type 0 where
   pub missing : length hints < announced
   pub none : HasNoNumber (2 ^ 65) rest
 
+-- behind a clause there is no number of hints
 pub record HasNoHintCount (bytes : List ℕ) : Type 0 where
   pub literals : List Lit
+  pub readable : AreReadable IsLiteral literals
+  pub is_clause : IsClause literals
   pub rest : List ℕ
   pub begins : bytes ≡ counted literal_bytes literals ++ rest
   pub none : HasNoNumber (2 ^ 65) rest

@@ -1,3 +1,5 @@
+//! The item of a clause.
+
 ghost use Rattle.std.specs.Prelude.{◌≡◌, false, IfErr, IfOk, map, OnOk, true};
 ghost use Rattle.refutation_lines.specs.Propagation.{negation};
 ghost use Rattle.refutation_items.specs.Refusals.{IsRefusedFor};

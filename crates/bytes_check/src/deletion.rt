@@ -1,3 +1,5 @@
+//! The item of a deletion.
+
 ghost use Rattle.std.specs.Prelude.{◌≡◌, IfErr, OnOk};
 ghost use Rattle.refutation_items.specs.Refusals.{IsRefusedFor};
 ghost use Rattle.refutation_steps.specs.Tables.{ready};

@@ -1,3 +1,5 @@
+//! The next item of a refutation.
+
 ghost use Rattle.std.specs.Prelude.{◌≡◌, IfErr, IfOk, OnOk};
 ghost use Rattle.refutation_items.specs.Refusals.{IsRefusedFor};
 ghost use Rattle.refutation_steps.specs.Tables.{ready};

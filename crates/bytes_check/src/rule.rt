@@ -1,3 +1,5 @@
+//! The item of a rule.
+
 ghost use Rattle.std.specs.Prelude.{◌≡◌, IfErr, IfOk, OnOk};
 ghost use Rattle.refutation_items.specs.Refusals.{IsRefusedFor};
 ghost use Rattle.refutation_steps.specs.RuleWords.{NamesNumber};

@@ -1,3 +1,5 @@
+//! A whole refutation in bytes.
+
 ghost use Rattle.std.specs.Prelude.{◌≡◌, IfErr, IfOk, OnOk};
 ghost use Rattle.sources.specs.Leaving.{IsAtEnd, Takes};
 ghost use Rattle.refutation_lines.specs.LineText.{header_bytes};

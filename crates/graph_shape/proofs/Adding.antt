@@ -2,11 +2,10 @@
 use Rattle.std.proofs.Common.{suc, take, get_or, slice_get, ◌≡◌, ◌↔◌, ◌⊎◌, ◌+◌, ◌<◌, inl, inr, ℕ, Bool, List, [], ◌∷◌, ◌++◌, Contains, Some, length, refl, sym, ap, subst, ◌∙◌}
 use native.Mathlib.Omega.{arith}
 use Rattle.std.proofs.Math.Nat.{eq-or-lt_of_le}
-use Rattle.std.proofs.Math.Seq.{take-suc}
 use Rattle.std.proofs.lemmas.Option.{slice_get_within}
-use Rattle.std.proofs.lemmas.List.Elements.{Contains-append_left, Contains-append_right, Contains-append_cases}
 use Rattle.program.proofs.Lists.{contains_at, contains_here, contains_nil, contains_one}
 use Rattle.program.specs.Program.{Prog}
+use Rattle.spots.proofs.FirstItems.{among_first}
 use Rattle.spots.specs.Spots.{Leads}
 use Rattle.spots.specs.declared.leads.Lead.{Lead}
 use Rattle.spots.specs.declared.spot.Spot.{Spot}
@@ -33,14 +32,6 @@ both {A} {B} {C} {P} {Q} {S} one two is = ((λ c. f (two.0 c)), g)
         k (inl p) = two.1 (inl (one.1 (inr p)))
         k (inr q) = two.1 (inr q)
 
--- nothing was added
-pub none : {A S : Type 0} → (S → ⊥) → A ↔ (A ⊎ S)
-none {A} {S} empty = ((λ a. inl a), f)
-  where
-    f : A ⊎ S → A
-    f (inl a) = a
-    f (inr s) = absurd (empty s)
-
 pub same : {A B P S : Type 0} → B ↔ (A ⊎ P) → P ↔ S → B ↔ (A ⊎ S)
 same {A} {B} {P} {S} one is = ((λ b. f (one.0 b)), g)
   where
@@ -61,27 +52,24 @@ module _ (spots : List Spot) (from : ℕ) where
     (λ along. (let t = once e.to along.second in λ i. record { from = along.begins i; taken = along.taken i; to = t i })),
   )
 
-  pub along_none : (step : Lead) → (Contains spots step.to → ⊥) → (e : Edge) → IsEdgeAlong spots from step e → ⊥
-  along_none step absent e along = absent (contains_at spots e.to step.to along.second)
-
   module _ (steps : List Lead) where
-    pub of_none : (e : Edge) → IsEdgeOf spots from (take 0 steps) e → ⊥
-    of_none e of = contains_nil of.0 of.1
-
     pub of_more : (k : ℕ) (step : Lead) → k < length steps → step ≡ get_or steps k step → (e : Edge) →
         IsEdgeOf spots from (take (k + 1) steps) e ↔ (IsEdgeOf spots from (take k steps) e ⊎ IsEdgeAlong spots from step e)
-    of_more k step within is e =
-        let next : k + 1 ≡ suc k = omega arith in
-        let longer : take (k + 1) steps ≡ take k steps ++ step ∷ [] = ap (λ n. take n steps) next ∙ take-suc steps k step within ∙ ap (λ z. take k steps ++ z ∷ []) (sym is) in
-        ((λ of. by of.0 of.2 (Contains-append_cases (take k steps) (step ∷ []) of.0 (subst (λ xs. Contains xs of.0) longer of.1))), back longer)
+    of_more k step within is e = (by, back)
       where
-        by : (l : Lead) → IsEdgeAlong spots from l e → Contains (take k steps) l ⊎ Contains (step ∷ []) l → IsEdgeOf spots from (take k steps) e ⊎ IsEdgeAlong spots from step e
-        by l along (inl there) = inl (l, there, along)
-        by l along (inr one) = inr (subst (λ (z : Lead). IsEdgeAlong spots from z e) (sym (contains_one step l one)) along)
+        first : (l : Lead) → Contains (take (k + 1) steps) l ↔ (Contains (take k steps) l ⊎ (l ≡ step))
+        first l = among_first steps k step l within is
 
-        back : take (k + 1) steps ≡ take k steps ++ step ∷ [] → IsEdgeOf spots from (take k steps) e ⊎ IsEdgeAlong spots from step e → IsEdgeOf spots from (take (k + 1) steps) e
-        back longer (inl of) = (of.0, subst (λ xs. Contains xs of.0) (sym longer) (Contains-append_left (take k steps) (step ∷ []) of.0 of.1), of.2)
-        back longer (inr along) = (step, subst (λ xs. Contains xs step) (sym longer) (Contains-append_right (take k steps) (step ∷ []) step (contains_here step [])), along)
+        parts : (l : Lead) → IsEdgeAlong spots from l e → Contains (take k steps) l ⊎ (l ≡ step) → IsEdgeOf spots from (take k steps) e ⊎ IsEdgeAlong spots from step e
+        parts l along (inl there) = inl (l, there, along)
+        parts l along (inr one) = inr (subst (λ (z : Lead). IsEdgeAlong spots from z e) one along)
+
+        by : IsEdgeOf spots from (take (k + 1) steps) e → IsEdgeOf spots from (take k steps) e ⊎ IsEdgeAlong spots from step e
+        by of = parts of.0 of.2 ((first of.0).0 of.1)
+
+        back : IsEdgeOf spots from (take k steps) e ⊎ IsEdgeAlong spots from step e → IsEdgeOf spots from (take (k + 1) steps) e
+        back (inl of) = (of.0, (first of.0).1 (inl of.1), of.2)
+        back (inr along) = (step, (first step).1 (inr refl), along)
 
     pub of_all : (p : Prog) (limit : ℕ) (spot : Spot) → slice_get spots from ≡ Some spot → ((lead : Lead) → Contains steps lead ↔ Leads p limit spot lead.taken lead.to) → (n : ℕ) → take n steps ≡ steps → (e : Edge) →
         IsEdgeOf spots from (take n steps) e ↔ IsEdgeFrom p limit spots from e
@@ -113,9 +101,6 @@ abbrev pub FromBelow : Prog → ℕ → List Spot → ℕ → Edge → Type 0
 FromBelow p limit spots n edge = (edge.from < n) × IsEdge p limit spots edge
 
 module _ (p : Prog) (limit : ℕ) (spots : List Spot) where
-  pub none_below : (e : Edge) → FromBelow p limit spots 0 e → ⊥
-  none_below e below = (let less = below.0 in absurd (omega arith))
-
   pub one_below : (n : ℕ) (e : Edge) → FromBelow p limit spots (n + 1) e ↔ (FromBelow p limit spots n e ⊎ IsEdgeFrom p limit spots n e)
   one_below n e = ((λ below. by below.0 below.1 (eq-or-lt_of_le (let less = below.0 in omega arith))), back)
     where

@@ -13,7 +13,7 @@ use Rattle.std.specs.declared.cmp.Ordering.TheVariants.{Less, Equal, Greater}
 use Rattle.std.proofs.lemmas.Bool.{cases_lt}
 use Rattle.std.proofs.lemmas.Option.{get_or_from_slice_get, slice_get-get_or, slice_get_within}
 use Rattle.std.specs.List.{AllWithin}
-use Rattle.spots.proofs.Same.{one_spot, spot_total}
+use Rattle.spots.proofs.Same.{one_bool, one_spot, spot_total, then_equal}
 use Rattle.spots.specs.Order.{spot_cmp}
 use Rattle.spots.specs.declared.spot.Spot.{Spot}
 use Rattle.graph_shape.specs.Edges.{edge_cmp}
@@ -24,17 +24,6 @@ use Rattle.graph_shape.specs.declared.edge.Edge.{Edge}
 
 pub edge_total : IsTotalOrder edge_cmp
 edge_total = then_total (on_total (λ e. e.from) nat_cmp_total) (then_total (on_total (λ e. e.taken) bool_cmp_total) (on_total (λ e. e.to) nat_cmp_total))
-
-then_equal : (r s : Ordering) → ordering_then r s ≡ Equal → (r ≡ Equal) × (s ≡ Equal)
-then_equal Less s e = absurd cc
-then_equal Equal s e = (refl, e)
-then_equal Greater s e = absurd cc
-
-one_bool : (x y : Bool) → bool_cmp x y ≡ Equal → x ≡ y
-one_bool false false e = refl
-one_bool false true e = absurd cc
-one_bool true false e = absurd cc
-one_bool true true e = refl
 
 pub one_edge : (x y : Edge) → edge_cmp x y ≡ Equal → x ≡ y
 one_edge x y e =

@@ -15,17 +15,6 @@ use Rattle.spots.specs.Spots.{Lands, Leads, StepsTo, begins, end_of, ends, stand
 use Rattle.spots.specs.declared.spot.Spot.{Spot}
 use Rattle.kept_spots.specs.Ending.{AreClosed, CanEnd, IsAtEnd, IsMarked, SomeMarked}
 
--- the last of the first items, or one before it
-pub last_or_before : {X : Type 0} (xs : List X) (k : ℕ) (x y : X) → k < length xs → x ≡ get_or xs k x → Contains (take (k + 1) xs) y → Contains (take k xs) y ⊎ (y ≡ x)
-last_or_before xs k x y within is there =
-    let next : k + 1 ≡ suc k = omega arith in
-    let longer : take (k + 1) xs ≡ take k xs ++ x ∷ [] = ap (λ n. take n xs) next ∙ take-suc xs k x within ∙ ap (λ z. take k xs ++ z ∷ []) (sym is) in
-    by (Contains-append_cases (take k xs) (x ∷ []) y (subst (λ ys. Contains ys y) longer there))
-  where
-    by : Contains (take k xs) y ⊎ Contains (x ∷ []) y → Contains (take k xs) y ⊎ (y ≡ x)
-    by (inl before) = inl before
-    by (inr one) = inr (sym (contains_one x y one))
-
 module _ (spots : List Spot) (marks : List Bool) (to : Spot) where
   pub marked_there : (o : Option ℕ) → IfSome o (λ place. slice_get spots place ≡ Some to) → IsMarked marks o → (n : ℕ) × (slice_get spots n ≡ Some to) × (slice_get marks n ≡ Some true)
   marked_there None is marked = (let e = marked.1 in absurd cc)

@@ -26,6 +26,7 @@ use Rattle.opcodes.specs.declared.instruction.Instr.TheVariants as instr
 use Rattle.opcodes.specs.declared.listed.Listed.{Listed}
 use Rattle.program.specs.Ints.{IsInt}
 use Rattle.program.specs.Names.{IsName, IsNameByte}
+use Rattle.program.specs.declared.method.MethodId.{MethodId}
 use Rattle.resolution.specs.Resolution.{Resolved, Names, Unknown, Forbidden, Final, constant_named, is_writable, is_name_byte, resolve_at, field_named, field_of, field_of_class, own_field, field_resolved, field_spelling, static_call, method_of, method_of_class, own_method, method_resolved, method_spelling, is_callable, class_place, virtual_call, is_bare, is_called, of_thread, of_thread_class, special_call, made_by, main_made, class_made, thread_run}
 use Rattle.resolution.specs.Places.{is_static_named}
 use Rattle.resolution.specs.Signatures.{signature_of}
@@ -80,11 +81,21 @@ pub record IsIntFieldAt (classes : List ClassRecord) (class_at field_at : ℕ) :
   pub field_there : slice_get class.fields field_at ≡ Some field
   pub int : is_int_field class.pool field ≡ true
 
--- a constant is an int, a field holds one, a class object has a name that can be written, and main alone makes objects
+-- a static method of a listed class
+pub record IsStaticAt (classes : List ClassRecord) (id : MethodId) : Type 0 where
+  pub class : ClassRecord
+  pub class_there : slice_get classes id.class ≡ Some class
+  pub method : Member
+  pub method_there : slice_get class.methods id.method ≡ Some method
+  pub static : has_flag method.flags static_flag ≡ true
+
+-- a constant is an int, a field holds one, a class object has a name that can be written, a method that is called is static,
+-- and main alone makes objects
 abbrev pub WellNamed : List ClassRecord → Bool → List PoolEntry → Resolved → Type 0
 WellNamed classes main pool (Names (target.Constant n)) = IsInt n
 WellNamed classes main pool (Names (target.Field class_at field_at)) = IsIntFieldAt classes class_at field_at
 WellNamed classes main pool (Names (target.Class index)) = IsName (class_name_of pool index)
+WellNamed classes main pool (Names (target.Call id)) = IsStaticAt classes id
 WellNamed classes main pool (Names (target.New class_at)) = main ≡ true
 WellNamed classes main pool (Names target.NewTarget) = main ≡ true
 WellNamed classes main pool r = Unit {0}
@@ -145,22 +156,30 @@ module _ (classes : List ClassRecord) (profile : IsOfProfile classes) (main : Bo
   of_static None = tt
   of_static (Some r) = placed (class_place classes r.class)
     where
-      found : (class_at method_at : ℕ) (at : List PoolEntry) (o : Option Member) → WellNamed classes main pool (method_resolved at class_at method_at o r)
-      found class_at method_at at None = tt
-      found class_at method_at at (Some m) =
-          either (is_callable m (signature_of r.descriptor)) (Names (target.Call (record { class = class_at; method = method_at }))) (Forbidden (method_spelling r)) tt tt
+      found : (class_at method_at : ℕ) (class : ClassRecord) (o : Option Member) → slice_get classes class_at ≡ Some class → slice_get class.methods method_at ≡ o →
+          position (is_static_named class.pool r.name r.descriptor) class.methods ≡ Some method_at → WellNamed classes main pool (method_resolved class.pool class_at method_at o r)
+      found class_at method_at class None class_there method_there first = tt
+      found class_at method_at class (Some m) class_there method_there first =
+          let at = get_or_from_slice_get class.methods method_at m m method_there in
+          let test = is_static_named class.pool r.name r.descriptor in
+          let passes = ap test (sym at) ∙ (position-Some test class.methods method_at m first).1 in
+          let static = and_first (has_flag m.flags static_flag) (same_text r.name (member_name class.pool m))
+          (and_first (has_flag m.flags static_flag && same_text r.name (member_name class.pool m)) (same_text r.descriptor (member_descriptor class.pool m)) passes) in
+          either (is_callable m (signature_of r.descriptor)) (Names (target.Call (record { class = class_at; method = method_at }))) (Forbidden (method_spelling r))
+          (record { class = class; class_there = class_there; method = m; method_there = method_there; static = static }) tt
 
-      own : (class_at : ℕ) (class : ClassRecord) (o : Option ℕ) → WellNamed classes main pool (own_method class_at class r o)
-      own class_at class None = tt
-      own class_at class (Some place) = found class_at place class.pool (slice_get class.methods place)
+      own : (class_at : ℕ) (class : ClassRecord) (o : Option ℕ) → slice_get classes class_at ≡ Some class →
+          position (is_static_named class.pool r.name r.descriptor) class.methods ≡ o → WellNamed classes main pool (own_method class_at class r o)
+      own class_at class None class_there first = tt
+      own class_at class (Some place) class_there first = found class_at place class (slice_get class.methods place) class_there refl first
 
-      of_one : (place : ℕ) (o : Option ClassRecord) → WellNamed classes main pool (method_of_class place o r)
-      of_one place None = tt
-      of_one place (Some class) = own place class (position (is_static_named class.pool r.name r.descriptor) class.methods)
+      of_one : (place : ℕ) (o : Option ClassRecord) → slice_get classes place ≡ o → WellNamed classes main pool (method_of_class place o r)
+      of_one place None there = tt
+      of_one place (Some class) there = own place class (position (is_static_named class.pool r.name r.descriptor) class.methods) there refl
 
       placed : (o : Option ℕ) → WellNamed classes main pool (method_of classes r o)
       placed None = tt
-      placed (Some place) = of_one place (slice_get classes place)
+      placed (Some place) = of_one place (slice_get classes place) refl
 
   of_virtual : (o : Option Reference) → WellNamed classes main pool (virtual_call classes main o)
   of_virtual None = tt

@@ -3,6 +3,6 @@ mod OneProgram
 mod OneRefusal
 mod OperandLists
 mod Phased
-mod Readable
-mod Typable
+pub mod Readable
+pub mod Typable
 mod TypedMethods

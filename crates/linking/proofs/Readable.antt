@@ -221,7 +221,7 @@ module _ (code : List ℕ) where
         reads_at pc within (λ number is_unknown. faultless pc (unknown number reached is_unknown)) (λ is_cut. faultless pc (cut reached is_cut))
 
     module _ (listing : List Listed) (listed : IsListingOf code listing) where
-      stands : (pc : ℕ) → Reached code pc → pc < length code → (i : Instr) × StandsAt listing pc i
+      pub stands : (pc : ℕ) → Reached code pc → pc < length code → (i : Instr) × StandsAt listing pc i
       stands pc reached within = let read = reads pc reached within in (read.0, listed.whole pc read.0 reached read.1)
 
       -- ---- The start

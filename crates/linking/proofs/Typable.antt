@@ -51,7 +51,7 @@ first_valid pool [] body valid e = absurd (none-some body e)
 first_valid pool (a ∷ attributes) body valid e =
     first_open pool (out-Attribute a) (first_body attributes) body valid.0 (first_valid pool attributes body valid.1) e
 
-valid_code : (classes : List ClassRecord) (id : MethodId) (class : ClassRecord) (body : CodeBody) → All IsValid classes → HasCodeAt classes id class body →
+pub valid_code : (classes : List ClassRecord) (id : MethodId) (class : ClassRecord) (body : CodeBody) → All IsValid classes → HasCodeAt classes id class body →
     IsCode class.pool body
 valid_code classes id class body valid code =
     let class_valid = all_at IsValid classes id.class class valid code.there.class_there in
@@ -78,7 +78,7 @@ module _ (classes : List ClassRecord) (main : MethodId) (faultless : IsFaultless
     uncut : (pc : ℕ) → Reached body.code pc → IsCut body.code pc → ⊥
     uncut pc reached is = faulty pc CutInstruction Nothing (code_fault.cut body.code (place pc reached) is refl refl)
 
-    no_fault : (pc : ℕ) → HasFault body.code pc → ⊥
+    pub no_fault : (pc : ℕ) → HasFault body.code pc → ⊥
     no_fault pc (unknown number reached is) = known pc reached number is
     no_fault pc (cut reached is) = uncut pc reached is
     no_fault pc (leaves reached is) =
@@ -90,7 +90,7 @@ module _ (classes : List ClassRecord) (main : MethodId) (faultless : IsFaultless
   -- ---- Methods
 
   module _ (number : ℕ → ℕ → ℕ) (monitors : List (List ℕ)) where
-    as_many_symbols : (pool : List PoolEntry) (made : ℕ) (targets : List Target) → length (symbols_from classes number monitors pool made targets) ≡ length targets
+    pub as_many_symbols : (pool : List PoolEntry) (made : ℕ) (targets : List Target) → length (symbols_from classes number monitors pool made targets) ≡ length targets
     as_many_symbols pool made [] = refl
     as_many_symbols pool made (t ∷ targets) = ap suc (as_many_symbols pool (made + (if is_new t then 1 else 0)) targets)
 

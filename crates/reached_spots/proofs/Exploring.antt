@@ -15,9 +15,6 @@ use Rattle.reached_spots.specs.declared.exploration.Exploration.{Exploration}
 none_there : (xs : List Spot) (s : Spot) → xs ≡ [] → Contains xs s → ⊥
 none_there xs s e there = contains_nil s (subst (λ (ys : List Spot). Contains ys s) e there)
 
-pub none_below : (s : Spot) → BeginsBelow 0 s → ⊥
-none_below s below = (let less = below.1 in absurd (omega arith))
-
 pub one_below : (k : ℕ) (s : Spot) → BeginsBelow (k + 1) s ↔ (BeginsBelow k s ⊎ (s ≡ begin_of k))
 one_below k s = ((λ below. by below.0 below.1 below.2 (eq-or-lt_of_le (let less = below.1 in omega arith))), back)
   where

@@ -5,8 +5,8 @@ use native.Mathlib.Omega.{arith}
 use Rattle.std.specs.BTreeSet.{BTreeSet, Updates, contains}
 use Rattle.std.proofs.lemmas.List.Elements.{Contains-append_left, Contains-append_right, Contains-append_cases}
 use Rattle.program.proofs.Lists.{contains_here, contains_nil, contains_one}
-use Rattle.std.proofs.Math.Seq.{take-suc}
 use Rattle.std.proofs.lemmas.List.{take-append-drop}
+use Rattle.spots.proofs.FirstItems.{among_first}
 use Rattle.spots.proofs.Same.{one_spot, spot_total}
 use Rattle.spots.specs.Order.{spot_cmp}
 use Rattle.spots.specs.declared.leads.Lead.{Lead}
@@ -62,20 +62,6 @@ module _ (old new : Exploration) (spot : Spot) where
 
 -- ---- One after the other
 
-nothing_met : (x : Exploration) (T : Spot → Type 0) → ((s : Spot) → T s → ⊥) → IsMet x x T
-nothing_met x T none = record {
-  seen = λ s. ((λ there. inl there), by s);
-  kept = λ s there. there;
-  added = λ s there. inl there;
-  fresh = λ s there. inl there;
-  grown = omega arith;
-  as_many = omega arith;
-}
-  where
-    by : (s : Spot) → Contains x.seen.keys s ⊎ T s → Contains x.seen.keys s
-    by s (inl there) = there
-    by s (inr t) = absurd (none s t)
-
 pub met_then : (x y z : Exploration) (T U V : Spot → Type 0) → IsMet x y T → IsMet y z U → ((s : Spot) → V s ↔ (T s ⊎ U s)) → IsMet x z V
 met_then x y z T U V one two is = record {
   seen = λ s. ((λ there. before s ((two.seen s).0 there)), behind s);
@@ -124,22 +110,22 @@ module _ (steps : List Lead) where
   abbrev Upto : ℕ → Spot → Type 0
   Upto k = LeadsAmong (take k steps)
 
-  pub none_yet : (x : Exploration) → IsMet x x (Upto 0)
-  none_yet x = nothing_met x (Upto 0) (λ s among. contains_nil among.0 among.1)
-
   pub one_more : (k : ℕ) (step : Lead) → k < length steps → step ≡ get_or steps k step → (s : Spot) → Upto (k + 1) s ↔ (Upto k s ⊎ (s ≡ step.to))
-  one_more k step within is s =
-      let next : k + 1 ≡ suc k = omega arith in
-      let longer : take (k + 1) steps ≡ take k steps ++ step ∷ [] = ap (λ n. take n steps) next ∙ take-suc steps k step within ∙ ap (λ z. take k steps ++ z ∷ []) (sym is) in
-      ((λ among. by among.0 among.2 (Contains-append_cases (take k steps) (step ∷ []) among.0 (subst (λ xs. Contains xs among.0) longer among.1))), back longer)
+  one_more k step within is s = (by, back)
     where
-      by : (l : Lead) → s ≡ l.to → Contains (take k steps) l ⊎ Contains (step ∷ []) l → Upto k s ⊎ (s ≡ step.to)
-      by l e (inl there) = inl (l, there, e)
-      by l e (inr one) = inr (e ∙ ap (λ (z : Lead). z.to) (sym (contains_one step l one)))
+      first : (l : Lead) → Contains (take (k + 1) steps) l ↔ (Contains (take k steps) l ⊎ (l ≡ step))
+      first l = among_first steps k step l within is
 
-      back : take (k + 1) steps ≡ take k steps ++ step ∷ [] → Upto k s ⊎ (s ≡ step.to) → Upto (k + 1) s
-      back longer (inl among) = (among.0, subst (λ xs. Contains xs among.0) (sym longer) (Contains-append_left (take k steps) (step ∷ []) among.0 among.1), among.2)
-      back longer (inr e) = (step, subst (λ xs. Contains xs step) (sym longer) (Contains-append_right (take k steps) (step ∷ []) step (contains_here step [])), e)
+      parts : (l : Lead) → s ≡ l.to → Contains (take k steps) l ⊎ (l ≡ step) → Upto k s ⊎ (s ≡ step.to)
+      parts l e (inl there) = inl (l, there, e)
+      parts l e (inr one) = inr (e ∙ ap (λ (z : Lead). z.to) one)
+
+      by : Upto (k + 1) s → Upto k s ⊎ (s ≡ step.to)
+      by among = parts among.0 among.2 ((first among.0).0 among.1)
+
+      back : Upto k s ⊎ (s ≡ step.to) → Upto (k + 1) s
+      back (inl among) = (among.0, (first among.0).1 (inl among.1), among.2)
+      back (inr e) = (step, (first step).1 (inr refl), e)
 
   pub among_all : (k : ℕ) (s : Spot) → Upto k s → LeadsAmong steps s
   among_all k s among = (among.0, subst (λ xs. Contains xs among.0) (take-append-drop k steps) (Contains-append_left (take k steps) (drop k steps) among.0 among.1), among.2)

@@ -1,3 +1,4 @@
 pub mod Along
+pub mod FirstItems
 pub mod Landing
 pub mod Same

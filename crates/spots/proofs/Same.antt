@@ -72,12 +72,12 @@ spot_total = then_total (on_total (λ s. s.thread) nat_cmp_total) (on_total (λ 
 
 -- ---- Only equal spots are equal in order
 
-then_equal : (r s : Ordering) → ordering_then r s ≡ Equal → (r ≡ Equal) × (s ≡ Equal)
+pub then_equal : (r s : Ordering) → ordering_then r s ≡ Equal → (r ≡ Equal) × (s ≡ Equal)
 then_equal Less s e = absurd cc
 then_equal Equal s e = (refl, e)
 then_equal Greater s e = absurd cc
 
-one_bool : (x y : Bool) → bool_cmp x y ≡ Equal → x ≡ y
+pub one_bool : (x y : Bool) → bool_cmp x y ≡ Equal → x ≡ y
 one_bool false false e = refl
 one_bool false true e = absurd cc
 one_bool true false e = absurd cc

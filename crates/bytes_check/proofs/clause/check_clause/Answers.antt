@@ -33,6 +33,7 @@ returns-in_err-take_literals-clause-refused g c =
 pub returns-in_err-hints-clause-refused : goal.returns-in_err-hints-clause-refused
 returns-in_err-hints-clause-refused g c =
     let literals = c.take_literals.new.table.literals in
+    let took = c.in_ok-take_literals.ensures.taken in
     let p = err_from_is_err_and c.from_residual-in_err-hints.result c.from_residual-in_err-hints.ensures.1 in
     rw (p.1, p.2)
     (refused-behind (g.B.Bytes.causes c.take_literals.new.bytes c.take_number-2.new.bytes) (g.B.Bytes.causes c.args.bytes.now c.take_number-2.new.bytes)
@@ -41,7 +42,8 @@ returns-in_err-hints-clause-refused g c =
     (literals-taken _ _ _ c.in_ok-count.count literals c.in_ok-count.ensures.taken c.in_ok-take_literals.ensures.taken)
     (λ read cause. g.met.B.Bytes.later_cause _ _ _ read (g.met.B.Bytes.moves_trans _ _ _ c.in_ok-count.ensures.moved c.in_ok-take_literals.ensures.moved)
     c.in_err-hints.ensures.moved cause)
-    (λ bytes reason lacks. hint-count-missing c.args.table.now.clauses literals bytes reason lacks)
+    (λ bytes reason lacks. hint-count-missing c.args.table.now.clauses literals c.in_ok-count.count bytes reason c.in_ok-count.ensures.few took.count_of took.fit
+    took.is_clause lacks)
     c.in_err-hints.ensures.refused)
 
 pub returns-in_err-follow_hints-clause-refused : goal.returns-in_err-follow_hints-clause-refused

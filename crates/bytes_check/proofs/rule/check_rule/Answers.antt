@@ -45,6 +45,7 @@ returns-in-Ok-clause-added g c =
     let took = c.in_ok-args.ensures.taken in
     rule-added (g.Q.RuleSource.instances c.args.rules.now) (g.B.Bytes.left c.args.bytes.now) (g.B.Bytes.left c.take_number.new.bytes) (g.B.Bytes.left c.take_number-2.new.bytes)
     (g.B.Bytes.left c.take_arguments.new.bytes) c.in_ok-number.number c.in_ok-count.count c.in_ok-args.args c.rule_of-rule.result
+    c.in_ok-number.ensures.few c.in_ok-count.ensures.few
     c.in_ok-number.ensures.taken c.in_ok-count.ensures.taken took
     (c.rule_of-rule.ensures.in_bytes c.in_ok-number.number took.words c.rule_number.ensures took.named)
     c.args.table.now.clauses c.add_named.new.table.clauses c.in-Ok.ensures.added
@@ -54,6 +55,7 @@ returns-in-Err-clause-refused g c =
     let took = c.in_ok-args.ensures.taken in
     rule-refused (g.Q.RuleSource.instances c.args.rules.now) (g.B.Bytes.left c.args.bytes.now) (g.B.Bytes.left c.take_number.new.bytes)
     (g.B.Bytes.left c.take_number-2.new.bytes) (g.B.Bytes.left c.take_arguments.new.bytes) c.in_ok-number.number c.in_ok-count.count c.in_ok-args.args c.rule_of-rule.result
+    c.in_ok-number.ensures.few c.in_ok-count.ensures.few
     c.in_ok-number.ensures.taken c.in_ok-count.ensures.taken took
     (c.rule_of-rule.ensures.in_bytes c.in_ok-number.number took.words c.rule_number.ensures took.named)
     (g.B.Bytes.causes c.args.bytes.now c.take_arguments.new.bytes) c.in-Err.refusal c.refused.result (g.met.B.Bytes.memory_free _ _) c.refused.ensures c.in-Err.ensures.wrong

@@ -6,7 +6,8 @@ use Rattle.program.proofs.Lists.{contains_at}
 use Rattle.std.proofs.lemmas.Option.{slice_get_read}
 use Rattle.spots.specs.declared.leads.Lead.{Lead}
 use Rattle.kept_spots.specs.Ending.{SomeMarked}
-use Rattle.kept_spots.proofs.Marks.{last_or_before, marked_there, unmarked_there}
+use Rattle.spots.proofs.FirstItems.{among_first}
+use Rattle.kept_spots.proofs.Marks.{marked_there, unmarked_there}
 use Rattle.kept_spots.proofs.ending.leads_to_marked.Goals as goal
 
 pub returns-then-is_marked : goal.returns-then-is_marked
@@ -28,7 +29,7 @@ returns-then-is_marked c = (
 
 pub loop-step-preserved : goal.loop-step-preserved
 loop-step-preserved c = λ lead n there at mark.
-    by lead n at mark (last_or_before c.as_slice-step-items.result.now c.loop-step.step-index c.step-item.result lead c.loop-step-test.true c.step-item.is there)
+    by lead n at mark ((among_first c.as_slice-step-items.result.now c.loop-step.step-index c.step-item.result lead c.loop-step-test.true c.step-item.is).0 there)
   where
     by : (lead : Lead) (n : ℕ) → slice_get c.args.spots.now n ≡ Some lead.to → slice_get c.args.marks.now n ≡ Some true → Contains (take c.loop-step.step-index c.as_slice-step-items.result.now) lead ⊎ (lead ≡ c.step-item.result) → ⊥
     by lead n at mark (inl before) = c.loop-step.invariant lead n before at mark

@@ -1,0 +1,11 @@
+pub mod Going
+pub mod Tying
+pub mod Changing
+pub mod Settled
+pub mod Hinting
+pub mod Chosen
+pub mod Returning
+pub mod Used
+pub mod Kept
+pub mod Logging
+pub mod Answered

@@ -1,0 +1,5 @@
+pub mod Going
+pub mod Tied
+pub mod Answers
+pub mod Used
+pub mod Logged

@@ -1,0 +1,3 @@
+mod TextLines
+mod Entries
+mod Texts

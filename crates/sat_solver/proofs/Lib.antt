@@ -1,0 +1,4 @@
+pub mod Assigned
+pub mod Empty
+pub mod Added
+pub mod Answered

@@ -1,0 +1,4 @@
+pub mod Apart
+pub mod Bounded
+pub mod Following
+pub mod Stepping

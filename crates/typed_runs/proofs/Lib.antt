@@ -1,0 +1,11 @@
+mod Matching
+mod Values
+mod Yielding
+mod Jumping
+mod Acts
+mod Called
+mod Standing
+mod Stepping
+mod Agreeing
+mod Reaching
+mod Going

@@ -1,0 +1,4 @@
+mod Below
+mod Rising
+mod ThreadBounds
+mod Passing
