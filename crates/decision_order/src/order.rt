@@ -14,6 +14,15 @@ impl From<AllocError> for Memory {
     }
 }
 
+/// How much more a raise counts after each time that activities aged.
+const GROWTH: f64 = 1.0526315789473684;
+
+/// Past this gain all activities are made smaller.
+const HIGH: f64 = 1e100;
+
+/// By how much they are made smaller then.
+const SMALLER: f64 = 1e-100;
+
 /// The variables that wait for a decision, the most active first, each with the value that it had last. No
 /// call after [`open`](DecisionOrder::open) takes memory.
 #[derive(Debug, Drop)]
@@ -24,6 +33,8 @@ pub struct DecisionOrder {
     activities: Vec<f64>,
     /// The value that each variable had last.
     phases: Vec<bool>,
+    /// How much the activity of a variable that is raised grows.
+    gain: f64,
 }
 
 impl Model for DecisionOrder {
@@ -61,6 +72,7 @@ impl DecisionOrder {
             places,
             activities,
             phases,
+            gain: 1.0,
         })
     }
 
@@ -113,13 +125,13 @@ impl DecisionOrder {
     }
 
     /// Makes a variable more active.
-    pub fn raise(&mut self, variable: u32, by: f64)
+    pub fn raise(&mut self, variable: u32)
         requires { variable < self.old.variables }
         ensures others { Stay self.old.waiting self.new.waiting }
         ensures variables { self.new.variables ≡ self.old.variables }
         ensures phases { self.new.phases ≡ self.old.phases }
     {
-        self.activities[variable as usize] += by;
+        self.activities[variable as usize] += self.gain;
         if let Some(place) = self.places[variable as usize] {
             sift_up(
                 &mut self.heap,
@@ -127,6 +139,19 @@ impl DecisionOrder {
                 &self.activities,
                 place as usize,
             );
+        }
+    }
+
+    /// Lets activities age: the raises from now on count for more than those before.
+    pub fn age(&mut self)
+        ensures { self.new ≡ self.old }
+    {
+        self.gain *= GROWTH;
+        if self.gain > HIGH {
+            self.gain *= SMALLER;
+            for activity in self.activities.iter_mut() {
+                *activity *= SMALLER;
+            }
         }
     }
 }

@@ -146,7 +146,7 @@ decisions_once n (s ∷ older) sound = elim (bool_cases (Rattle.trail.specs.Step
   | inr not_one ↦ subst (λ (ds : List ℕ). NoneTwice (map opposite_of ds)) (sym (ap (λ b. Rattle.std.proofs.Common.cond b (s.literal ∷ decisions_of older) (decisions_of older)) not_one)) (decisions_once n older sound.2)
 ]
 
-excluded_false : (steps : List Step) (x : ℕ) → IsIn x (map opposite_of (decisions_of steps)) → IsFalseIn (literals_of steps) x
+pub excluded_false : (steps : List Step) (x : ℕ) → IsIn x (map opposite_of (decisions_of steps)) → IsFalseIn (literals_of steps) x
 excluded_false steps x i =
     let at = map-IsIn opposite_of x (decisions_of steps) i in
     subst (λ y. IsIn y (literals_of steps)) (sym (opposite-opposite at.0) ∙ sym (ap opposite_of at.2)) (decisions_among steps at.0 at.1)

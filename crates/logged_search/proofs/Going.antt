@@ -1,5 +1,5 @@
 -- Lines that are put one after another.
-use Rattle.std.proofs.Common.{◌≡◌, ◌++◌, ◌∙◌, ℕ, List, [], ◌∷◌, Option, refl, sym, subst, arith, append_assoc}
+use Rattle.std.proofs.Common.{◌≡◌, ◌++◌, ◌+◌, ◌∙◌, ℕ, List, [], ◌∷◌, Option, refl, sym, subst, arith, append_assoc}
 use Rattle.std.specs.List.{flat_map}
 use Rattle.std.proofs.lemmas.List.Sums.{sum_by-append, sum_by-cons}
 use Rattle.ports.specs.Growth.{Grows, GrowsByPrefix}
@@ -92,9 +92,9 @@ goes-breaks formula a b h h' h'' clauses Mid first next =
     }
 
 -- the clause without literals behind lines
-pub goes-closes : (formula : FormulaValue) (a b : LogValue) (h h' h'' : Option (List ℕ)) (clauses : List (Option (List ℕ))) (Mid : List (Option (List ℕ)) → Type 0)
-    → Goes formula a b h h' clauses Mid → ((after : List (Option (List ℕ))) → Mid after → Closes formula h' h'' after) → Closes formula h h'' clauses
-goes-closes formula a b h h' h'' clauses Mid first next =
+pub goes-closes : (formula : FormulaValue) (a b : LogValue) (h h' h'' : Option (List ℕ)) (clauses : List (Option (List ℕ))) (Mid : List (Option (List ℕ)) → Type 0) (count : ℕ)
+    → (first : Goes formula a b h h' clauses Mid) → ((after : List (Option (List ℕ))) → Mid after → Closes formula count h' h'' after) → Closes formula (derived_in first.lines + count) h h'' clauses
+goes-closes formula a b h h' h'' clauses Mid count first next =
     let second = next first.after first.holds in
     let last = second.before ++ Clause [] second.hints ∷ [] in
     let assoc : (first.lines ++ second.before) ++ Clause [] second.hints ∷ [] ≡ first.lines ++ last = append_assoc first.lines second.before (Clause [] second.hints ∷ []) in
@@ -107,4 +107,5 @@ goes-closes formula a b h h' h'' clauses Mid first next =
       grows = subst (λ (ls : List Line). Grows h h'' (flat_map line_bytes ls)) (sym assoc)
           (subst (Grows h h'') (sym (flat-append line_bytes first.lines last)) (grows-then h h' h'' (flat_map line_bytes first.lines) (flat_map line_bytes last) first.grows second.grows));
       none_empty = none_empty-append first.lines second.before first.none_empty second.none_empty;
+      derived = let sum = sum_by-append one_if_derived first.lines second.before in omega (arith, sum, second.derived);
     }

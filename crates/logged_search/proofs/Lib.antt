@@ -9,3 +9,9 @@ pub mod Used
 pub mod Kept
 pub mod Logging
 pub mod Answered
+pub mod Named
+pub mod Ranks
+pub mod Following
+pub mod Splits
+pub mod Decisions
+pub mod Raised

@@ -16,6 +16,7 @@ use Rattle.search_log.specs.Lines.{IsCurrent, IsLiveNumber, TakesOutName, deleti
 use Rattle.search_log.proofs.Clauses.{flat-one}
 use Rattle.logged_search.specs.Going.{Breaks, Goes, one_if_derived}
 use Rattle.logged_search.specs.Tied.{AreTied, IsPending, reason_slot}
+use Rattle.logged_search.proofs.Named.{named-taken}
 use Rattle.logged_search.proofs.Changing.{last-taken, live-number, numbered-reason, numbered-within, pending-taken, tied-back, tied-taken, unnamed-reason}
 
 module _ (formula : FormulaValue) (clauses : List (Option (List ℕ))) (learned : List ℕ) (old new : State) (log : LogValue) (s : Step) (newest : old.trail.steps ≡ s ∷ new.trail.steps) (pool : new.pool ≡ old.pool) where
@@ -30,6 +31,7 @@ module _ (formula : FormulaValue) (clauses : List (Option (List ℕ))) (learned 
         tied = tied-back formula clauses new.pool s new.trail.steps log (unnamed-reason formula clauses log new.trail.steps s.literal s.reason other tied.reasons.0) tied;
         live = is.live;
         last = is.last;
+        named = is.named;
       }
 
   -- one whose reason is taken out
@@ -42,6 +44,7 @@ module _ (formula : FormulaValue) (clauses : List (Option (List ℕ))) (learned 
         tied = tied-taken formula clauses new.pool s new.trail.steps log fresh (tied-before is.tied) takes;
         live = pending-taken formula clauses log slot learned is.live is.last takes;
         last = last-taken log slot (numbered-within log.names slot takes.numbered) is.last;
+        named = named-taken formula clauses log slot takes is.named;
       }
 
   -- the reason has a number, and that is one of a live clause

@@ -34,14 +34,15 @@ pub record Goes (formula : FormulaValue) (old new : LogValue) (held held' : Opti
   pub derived : new.derived ≡ old.derived + derived_in lines
   pub holds : Then after
 
--- lines were put that lead from the clauses to the one without literals
-pub record Closes (formula : FormulaValue) (held held' : Option (List ℕ)) (clauses : List (Option (List ℕ))) : Type 0 where
+-- lines were put that lead from the clauses to the one without literals; so many before it are of clauses that were derived
+pub record Closes (formula : FormulaValue) (count : ℕ) (held held' : Option (List ℕ)) (clauses : List (Option (List ℕ))) : Type 0 where
   pub before : List Line
   pub hints : List ℕ
   pub after : List (Option (List ℕ))
   pub leads : LeadTo formula clauses (before ++ Clause [] hints ∷ []) after
   pub grows : Grows held held' (flat_map line_bytes (before ++ Clause [] hints ∷ []))
   pub none_empty : NoneEmpty before
+  pub derived : derived_in before ≡ count
 
 -- a fault came amid lines that lead from the clauses to others
 pub record Breaks (formula : FormulaValue) (held held' : Option (List ℕ)) (clauses : List (Option (List ℕ))) : Type 0 where

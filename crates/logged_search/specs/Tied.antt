@@ -1,5 +1,5 @@
 -- How the clauses of a search and the reasons on its trail have the names of clauses in its log.
-use Rattle.std.specs.Prelude.{◌+◌, ◌<◌, ◌≡◌, ℕ, ⊤, List, [], ◌∷◌, None, Option, Some, length, map}
+use Rattle.std.specs.Prelude.{◌+◌, ◌<◌, ◌≡◌, ◌⊎◌, ℕ, ⊤, List, [], ◌∷◌, None, Option, Some, length, map}
 use Rattle.clause_pool.specs.PoolValue.{PoolValue, clause_at}
 use Rattle.literals.specs.Literal.{opposite_of, variable_of}
 use Rattle.literals.specs.Propagation.{HasNoValueIn}
@@ -10,7 +10,8 @@ use Rattle.trail.specs.declared.step.Step.{Step}
 use Rattle.var_names.specs.Formulas.{FormulaValue, NamesClause}
 use Rattle.search_steps.specs.declared.state.State.{State}
 use Rattle.search_log.specs.declared.name.Name.TheVariants.{Unnamed}
-use Rattle.search_log.specs.Names.{LogValue, clauses_of, name_at, IsNamed, IsNumbered, IsNumberedName, IsLastUnnamed, SameLiterals}
+use Rattle.refutation_check.specs.LiveClauses.{IsLiveClause}
+use Rattle.search_log.specs.Names.{LogValue, clauses_of, name_at, HasNumber, IsNamed, IsNumbered, IsNumberedName, IsLastUnnamed, SameLiterals}
 use Rattle.search_log.specs.Lines.{IsCurrent}
 
 -- where the name of the reason by decisions of a literal stands
@@ -40,11 +41,20 @@ pub record AreTied (formula : FormulaValue) (clauses : List (Option (List ℕ)))
   pub handles : log.handles ≡ length pool.clauses
   pub slots : length log.names ≡ log.handles + length formula.variables
 
+-- every live clause of the log has its number for a name
+abbrev pub AreAllNamed : List (Option (List ℕ)) → LogValue → Type 0
+AreAllNamed clauses log = (number : ℕ) (written : List ℕ) → IsLiveClause clauses number written → HasNumber log number
+
+-- every one but the clause that was logged last
+abbrev pub AreOthersNamed : List (Option (List ℕ)) → LogValue → Type 0
+AreOthersNamed clauses log = (number : ℕ) (written : List ℕ) → IsLiveClause clauses number written → (number ≡ clauses_of log) ⊎ HasNumber log number
+
 -- the same, and the clause that was logged last is live and has no name so far
 pub record IsPending (formula : FormulaValue) (state : State) (log : LogValue) (clauses : List (Option (List ℕ))) (learned : List ℕ) : Type 0 where
   pub tied : AreTied formula clauses state.pool state.trail.steps log
   pub live : IsNumbered clauses (clauses_of log) learned
   pub last : IsLastUnnamed log
+  pub named : AreOthersNamed clauses log
 
 pub record HasPending (state : State) (log : LogValue) : Type 0 where
   pub formula : FormulaValue

@@ -10,6 +10,7 @@ ghost use Rattle.logged_search.specs.Logged.{IsLogged, HasLog, HasTie};
 
 use crate::choosing::choose;
 use crate::keeping::keep;
+use crate::raising::raise_met;
 use crate::search::LoggedSearch;
 use crate::unwinding::unwind;
 use clause_pool::ClauseRef;
@@ -47,6 +48,13 @@ pub fn answer_conflict<S: Sink>(
         search.spare,
         conflict,
     );
+    raise_met(
+        &mut search.state.order,
+        &search.state.pool,
+        &search.state.trail,
+        search.analysis.learned(),
+        search.analysis.hints(),
+    );
     search.log.put_clause(
         formula,
         out,
@@ -77,7 +85,7 @@ pub fn refute<S: Sink>(
     requires few { search.old.log.derived + 1 < 2 ^ 64 }
     ensures closes { MatchResult result
         (λ _. (clauses : List (Option (List ℕ))) → AreTied formula.now clauses search.old.state.pool search.old.state.trail.steps search.old.log
-        → Closes formula.now (S.held out.old) (S.held out.new) clauses)
+        → Closes formula.now 0 (S.held out.old) (S.held out.new) clauses)
         (λ _. (clauses : List (Option (List ℕ))) → AreTied formula.now clauses search.old.state.pool search.old.state.trail.steps search.old.log
         → Breaks formula.now (S.held out.old) (S.held out.new) clauses) }
     ensures cause { HasCause (S.faults out.old) (S.faults out.new) result }

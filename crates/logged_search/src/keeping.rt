@@ -1,12 +1,13 @@
 //! What was logged last becomes a reason.
 
-ghost use Rattle.std.specs.Prelude.{◌≡◌, ◌*◌, ◌<◌, ℕ, All, List, Option, length};
+ghost use Rattle.std.specs.Prelude.{◌≡◌, ◌*◌, ◌<◌, ◌≤◌, ℕ, All, List, Option, length};
 ghost use Rattle.clause_pool.specs.PoolValue.{IsFull, NoneTwice};
 ghost use Rattle.var_names.specs.Formulas.{FormulaValue};
 ghost use Rattle.propagation.specs.Ready.{IsReady};
 ghost use Rattle.search_steps.specs.States.{IsState};
 ghost use Rattle.learning_steps.specs.Reasons.{IsNextReason, IsSettled};
 ghost use Rattle.logged_search.specs.Answers.{ExcludesDecisions};
+ghost use Rattle.logged_search.specs.Ranks.{next_rank};
 ghost use Rattle.logged_search.specs.Tied.{IsPending, HoldsFormula};
 ghost use Rattle.logged_search.specs.Logged.{IsLogged, IsSized, HasPendingOf};
 
@@ -27,7 +28,8 @@ pub fn keep(search: &mut LoggedSearch)
     requires pending { HasPendingOf search.old }
     ensures ready { IsReady search.new.state.pool search.new.state.trail (length search.old.state.trail.steps) }
     ensures logged { (formula : FormulaValue) (clauses : List (Option (List ℕ))) → IsPending formula search.old.state search.old.log clauses search.old.analysis.learned
-        → IsSized formula search.old → HoldsFormula formula search.old.state.pool.clauses → IsLogged formula search.new clauses }
+        → IsSized formula search.old → HoldsFormula formula search.old.state.pool.clauses
+        → search.old.log.derived ≤ next_rank search.old.state.trail.variables search.old.state.trail.steps → IsLogged formula search.new clauses }
     ensures derived { search.new.log.derived ≡ search.old.log.derived }
 {
     match add_reason(&mut search.state, search.analysis.learned()) {

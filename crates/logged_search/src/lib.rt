@@ -5,6 +5,7 @@
 mod choosing;
 mod conflict;
 mod keeping;
+mod raising;
 mod search;
 mod settling;
 mod unwinding;

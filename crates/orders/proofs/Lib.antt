@@ -12,3 +12,4 @@ pub mod Meeting
 pub mod Essential
 pub mod Volatile
 pub mod Ordered
+pub mod Placing

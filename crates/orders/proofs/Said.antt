@@ -322,7 +322,7 @@ no_default : (a : Action) (v : Var) → Of a ≡ Default v → ⊥
 no_default a v e = cc
 
 -- nothing happens before a default write
-before_default : (p : Prog) (e : Exec) (x y : Act) (v : Var) → IsExecution e → y ≡ Default v → HappensBefore p e x y → ⊥
+pub before_default : (p : Prog) (e : Exec) (x y : Act) (v : Var) → IsExecution e → y ≡ Default v → HappensBefore p e x y → ⊥
 before_default p e x y v shape is (edge r) = let (b, is_b, action) = edge_to p e x y shape r in no_default b v (sym is_b ∙ is)
 before_default p e x y v shape is (more {b = m} r path) = before_default p e m y v shape is path
 

@@ -74,7 +74,7 @@ impl<'a> Orders<'a> {
     }
 
     /// Whether the action at the one place happens before that at the other.
-    fn happens_before(&self, i: usize, j: usize) -> bool
+    pub fn happens_before(&self, i: usize, j: usize) -> bool
         requires made { IsMade self.now }
         requires first { i < length self.now.flat.entries.items }
         requires second { j < length self.now.flat.entries.items }

@@ -6,6 +6,7 @@ mod answers;
 mod channel;
 mod channels;
 mod flat;
+mod lookups;
 mod make;
 mod numbers;
 mod synced;

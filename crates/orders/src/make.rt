@@ -2,7 +2,7 @@
 
 ghost use Rattle.std.specs.Prelude.{◌≡◌, ◌↔◌, ℕ, List, Contains, IfOk};
 ghost use Rattle.action_orders.specs.Actions.{variables};
-ghost use Rattle.orders.specs.Symbols.{OfVariable, symbols};
+ghost use Rattle.orders.specs.Symbols.{OfVariable, IsDistinct, symbols};
 ghost use Rattle.orders.specs.Flat.{IsOrdered};
 ghost use Rattle.orders.specs.Made.{IsMade};
 
@@ -18,7 +18,8 @@ use std::alloc::Global;
 
 /// The names of the program's variables.
 fn names_of<'a>(alloc: Global, program: &'a Program) -> Result<Channels<'a>, Memory>
-    ensures { IfOk result (λ names. (class name : List ℕ) → Contains (symbols names) (OfVariable class name) ↔ Contains (variables program.now) (record { class = class; name = name })) }
+    ensures named { IfOk result (λ names. (class name : List ℕ) → Contains (symbols names) (OfVariable class name) ↔ Contains (variables program.now) (record { class = class; name = name })) }
+    ensures apart { IfOk result (λ names. IsDistinct (symbols names)) }
 {
     let mut names = Channels::new(alloc);
     for variable in program.variables() {

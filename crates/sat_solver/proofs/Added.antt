@@ -1,5 +1,5 @@
 -- A clause of the formula is added.
-use Rattle.std.proofs.Common.{◌≡◌, ◌≢◌, ◌+◌, ◌*◌, ◌<◌, ◌≤◌, ◌⊎◌, ◌∙◌, ℕ, zero, suc, List, [], ◌∷◌, Option, Some, inl, inr, sym, ap, subst, arith, length}
+use Rattle.std.proofs.Common.{◌≡◌, ◌≢◌, ◌+◌, ◌*◌, ◌<◌, ◌≤◌, ◌⊎◌, ◌∙◌, ℕ, zero, suc, List, [], ◌∷◌, None, Option, Some, inl, inr, sym, ap, subst, arith, length}
 use Rattle.std.specs.Prelude.{AllPairs, slice_get, slice_set}
 use Rattle.std.proofs.lemmas.List.{length-set}
 use Rattle.clause_pool.specs.PoolValue.{PoolValue, IsFree, NoneTwice, clause_at, put_clause}
@@ -9,6 +9,7 @@ use Rattle.trail.specs.Steps.{IsSoundTrail, level_of}
 use Rattle.trail.specs.declared.step.Step.{Step}
 use Rattle.propagation.proofs.Same.{IsSamePool-refl}
 use Rattle.var_names.specs.Formulas.{FormulaValue, NamesClause, RuledClause}
+use Rattle.refutation_check.specs.LiveClauses.{IsLiveClause}
 use Rattle.search_steps.specs.States.{IsGrown}
 use Rattle.search_steps.specs.Adding.{IsAdded, clause_of}
 use Rattle.search_steps.specs.declared.adding.Added.{Added}
@@ -128,11 +129,16 @@ opened-started formula search count all opened = record {
     state = opened.state;
     sized = opened.sized;
     tied = opened.tied;
+    named = λ number written live. absurd (let no : ⊥ = none-live number written live in no);
     holds = λ place numbers names. opened.holds place numbers (omega (arith, all, found-within formula.clauses place names.clause names.found)) names;
+    counted = omega (arith, opened.derived);
   };
   derived = opened.derived;
 }
   where
+    none-live : (number : ℕ) (written : List ℕ) → IsLiveClause [] number written → ⊥
+    none-live number written live = let no : None ≡ Some (Some written) = live.stands in cc
+
     found-within : (clauses : List RuledClause) (place : ℕ) (clause : RuledClause) → slice_get clauses place ≡ Some clause → place < length clauses
     found-within [] place clause found = absurd (let no : ⊥ = cc in no)
     found-within (c ∷ cs) zero clause found = omega arith

@@ -10,8 +10,9 @@ fn most_active_first(rt: HostRuntime) -> Result<(), Fail> {
     order.put_back(0, true);
     order.put_back(1, false);
     order.put_back(2, true);
-    order.raise(2, 1.5);
-    order.raise(1, 0.5);
+    order.raise(1);
+    order.age();
+    order.raise(2);
     assert_eq!(rt; order.next(), Some(2));
     assert_eq!(rt; order.next(), Some(1));
     order.put_back(2, false);

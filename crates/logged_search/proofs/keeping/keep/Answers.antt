@@ -30,15 +30,15 @@ name_last-requires-in-Err-clause-within c =
     subst (λ (ls : List ℕ). s.log.handles + variable_of (get_or ls 0 0) < length s.log.names) (sym c.learned-in-Err.ensures) (omega (arith, below, p.pending.tied.slots))
 
 pub returns-in-Ok-clause-logged : goal.returns-in-Ok-clause-logged
-returns-in-Ok-clause-logged c = λ formula clauses pending sized holds.
+returns-in-Ok-clause-logged c = λ formula clauses pending sized holds counted.
     let s = c.args.search.now in
     let free = used-free s.state.pool c.in-Ok.clause c.in-Ok.ensures.fresh in
     logged-stored formula clauses s _ c.learned.result.now (subst (λ (ls : List ℕ). IsNextReason s.state.trail.steps ls) (sym c.learned.ensures) c.requires.next) c.in-Ok.ensures.state refl refl
-    (subst (λ (ls : List ℕ). IsPending formula s.state s.log clauses ls) (sym c.learned.ensures) pending) sized holds
+    (subst (λ (ls : List ℕ). IsPending formula s.state s.log clauses ls) (sym c.learned.ensures) pending) sized holds counted
     c.in-Ok.clause c.in-Ok.ensures.fresh c.in-Ok.ensures.put c.in-Ok.ensures.trail c.name_last.ensures (omega (arith, free, sized.spare))
 
 pub returns-in-Err-clause-logged : goal.returns-in-Err-clause-logged
-returns-in-Err-clause-logged c = λ formula clauses pending sized holds.
+returns-in-Err-clause-logged c = λ formula clauses pending sized holds counted.
     let s = c.args.search.now in
     let ls = c.learned-in-Err.result.now in
     let same : ls ≡ s.analysis.learned = c.learned-in-Err.ensures in
@@ -46,7 +46,7 @@ returns-in-Err-clause-logged c = λ formula clauses pending sized holds.
     let full : IsFull s.state.pool (length s.analysis.learned) = subst (λ (xs : List ℕ). IsFull s.state.pool (length xs)) c.learned.ensures (c.in-Err.ensures.full.0 refl) in
     let some : 0 < length s.analysis.learned = omega (arith, ap length c.requires.next.splits) in
     logged-excluded formula clauses s _ ls (subst (λ (xs : List ℕ). IsNextReason s.state.trail.steps xs) (sym same) c.requires.next) c.exclude.ensures.state refl refl
-    (subst (λ (xs : List ℕ). IsPending formula s.state s.log clauses xs) (sym same) pending) sized holds
+    (subst (λ (xs : List ℕ). IsPending formula s.state s.log clauses xs) (sym same) pending) sized holds counted
     (subst (λ (xs : List ℕ). ExcludesDecisions s.state.trail.steps xs) (sym same) (c.requires.excludes full))
     (subst (λ (xs : List ℕ). get_or xs 0 0 < 2 * s.state.trail.variables) (sym same) (c.requires.below 0 0 some))
     (c.exclude.ensures.pool ∙ ap (λ (x : State). x.pool) unchanged)

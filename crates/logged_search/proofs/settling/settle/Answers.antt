@@ -1,4 +1,6 @@
-use Rattle.std.proofs.Common.{◌+◌, ◌*◌, ◌∙◌, ap, sym}
+use Rattle.std.proofs.Common.{◌+◌, ◌*◌, ◌∙◌, ap, arith, sym}
+use Rattle.logged_search.specs.Ranks.{rank_of}
+use Rattle.logged_search.proofs.Ranks.{rank-grown}
 use Rattle.logged_search.proofs.Settled.{holds-same, in_use-same, tied-grown}
 use Rattle.logged_search.proofs.settling.settle.Goals as goal
 
@@ -16,5 +18,11 @@ returns-clause-logged c = λ formula clauses logged.
         spare = ap (λ n. old.spare + n) (in_use-same old.state.pool.clauses new.pool.clauses e.same_pool.handles e.same_pool.clauses) ∙ logged.sized.spare ∙ sym e.same_pool.handles;
       };
       tied = tied-grown new.trail.variables formula clauses old.state.pool new.pool old.state.trail new.trail old.log e.same_pool e.state.fit.trail_sound.steps e.grown logged.tied;
+      named = logged.named;
       holds = holds-same formula old.state.pool new.pool e.same_pool logged.holds;
+      counted =
+          let more = rank-grown old.state.trail.variables e.grown.newer old.state.trail.steps in
+          let steps = ap (rank_of old.state.trail.variables) e.grown.splits in
+          let variables = ap (λ n. rank_of n new.trail.steps) e.grown.variables in
+          omega (arith, more, steps, variables, logged.counted);
     }

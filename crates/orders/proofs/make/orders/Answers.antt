@@ -22,5 +22,6 @@ returns-clause-made c = record {
   events = subst (AreEvents c.in_ok-flat.flat.execution.now (symbols c.events.new.channels)) (sym c.in_ok-clocks.ensures.events) c.in_ok-events.ensures;
   table = c.in_ok-clocks.ensures.made;
   taken = c.in_ok-clocks.ensures.channels ∙ c.len.ensures.len;
-  named = subst (λ (p : Prog). (class name : List ℕ) → Contains (symbols c.in_ok-variables.variables) (OfVariable class name) ↔ Contains (variables p) (record { class = class; name = name })) (sym c.in_ok-flat.ensures.of_program) c.in_ok-variables.ensures;
+  named = subst (λ (p : Prog). (class name : List ℕ) → Contains (symbols c.in_ok-variables.variables) (OfVariable class name) ↔ Contains (variables p) (record { class = class; name = name })) (sym c.in_ok-flat.ensures.of_program) c.in_ok-variables.ensures.named;
+  apart = c.in_ok-variables.ensures.apart;
 }

@@ -1,10 +1,14 @@
-use Rattle.std.proofs.Common.{◌≡◌, ℕ, List, [], Option, ap, arith}
+use Rattle.std.proofs.Common.{◌≡◌, [], ap, arith}
+use Rattle.trail.specs.Steps.{decisions_of}
 use Rattle.propagation.proofs.Start.{ready_from_none}
 use Rattle.search_log.specs.Names.{LogValue}
 use Rattle.search_log.proofs.Pieces.{failed}
 use Rattle.logged_search.specs.Logged.{IsLogged}
-use Rattle.logged_search.specs.Tied.{AreTied}
+use Rattle.logged_search.specs.Conflicts.{HasConflict}
+use Rattle.logged_search.specs.Going.{derived_in}
 use Rattle.logged_search.proofs.Going.{goes-breaks, goes-closes, goes-none, goes-so, goes-then}
+use Rattle.logged_search.proofs.Decisions.{conflict-of}
+use Rattle.sat_solver.proofs.Fewer.{few-more}
 use Rattle.sat_solver.proofs.deciding.decide.Goals as goal
 
 pub loop-conflict-init : goal.loop-conflict-init
@@ -22,24 +26,29 @@ settle-requires-clause-state g c = c.loop-conflict.invariant.goes.holds.state
 pub returns-in_default-clause-ends : goal.returns-in_default-clause-ends
 returns-in_default-clause-ends g c =
     let f = c.args.formula.now in
-    record {
-      goes = goes-so f c.args.search.now.log c.loop-conflict.search.log c.settle.new.search.log (g.S.Sink.held c.args.out.now) (g.S.Sink.held c.loop-conflict.out) [] (IsLogged f c.loop-conflict.search) (IsLogged f c.settle.new.search)
-          (ap (λ (l : LogValue). l.derived) c.settle.ensures.log) (λ after logged. c.settle.ensures.logged f after logged) c.loop-conflict.invariant.goes;
-      are_true = c.in_default.ensures.satisfied;
-    }
+    let before = c.loop-conflict.invariant.goes in
+    let goes = goes-so f c.args.search.now.log c.loop-conflict.search.log c.settle.new.search.log (g.S.Sink.held c.args.out.now) (g.S.Sink.held c.loop-conflict.out) [] (IsLogged f c.loop-conflict.search) (IsLogged f c.settle.new.search)
+    (ap (λ (l : LogValue). l.derived) c.settle.ensures.log) (λ after logged. c.settle.ensures.logged f after logged) before in
+    let one = few-more f c.settle.new.search before.after (derived_in goes.lines) (c.settle.ensures.logged f before.after before.holds) (omega (arith, goes.derived, c.requires.begun)) in
+    record { goes = goes; few = omega (arith, one); are_true = c.in_default.ensures.satisfied }
 
 pub returns-then-derived-budget-clause-ends : goal.returns-then-derived-budget-clause-ends
 returns-then-derived-budget-clause-ends g c =
     let f = c.args.formula.now in
     let now = c.settle.new.search in
-    let goes = goes-so f c.args.search.now.log c.loop-conflict.search.log now.log (g.S.Sink.held c.args.out.now) (g.S.Sink.held c.loop-conflict.out) [] (IsLogged f c.loop-conflict.search)
-    (λ (after : List (Option (List ℕ))). AreTied f after now.state.pool now.state.trail.steps now.log)
-    (ap (λ (l : LogValue). l.derived) c.settle.ensures.log) (λ after logged. (c.settle.ensures.logged f after logged).tied) c.loop-conflict.invariant.goes in
+    let goes = goes-so f c.args.search.now.log c.loop-conflict.search.log now.log (g.S.Sink.held c.args.out.now) (g.S.Sink.held c.loop-conflict.out) [] (IsLogged f c.loop-conflict.search) (HasConflict f)
+    (ap (λ (l : LogValue). l.derived) c.settle.ensures.log) (λ after before. (
+    let logged = c.settle.ensures.logged f after before in
+    record {
+      decided = decisions_of now.state.trail.steps;
+      conflict = conflict-of f after now.state.pool now.state.trail now.log logged.state.fit logged.tied logged.state.units logged.named logged.holds c.in-Some.conflict c.in-Some.ensures.conflict;
+    })) c.loop-conflict.invariant.goes in
+    let before = c.loop-conflict.invariant.goes in
+    let logged = c.settle.ensures.logged f before.after before.holds in
     record {
       goes = goes;
       derived = omega (arith, goes.derived, c.requires.begun, c.if-derived-budget.true, c.derived-derived.ensures.derived);
-      clause = c.in-Some.conflict;
-      conflict = c.in-Some.ensures.conflict;
+      few = few-more f now before.after c.args.budget logged (omega (arith, c.if-derived-budget.true, c.derived-derived.ensures.derived));
     }
 
 pub refute-requires-clause-sized : goal.refute-requires-clause-sized
@@ -60,8 +69,15 @@ refute-requires-clause-few g c =
 pub returns-then-level-eq0-clause-ends : goal.returns-then-level-eq0-clause-ends
 returns-then-level-eq0-clause-ends g c =
     let f = c.args.formula.now in
-    goes-closes f c.args.search.now.log c.loop-conflict.search.log (g.S.Sink.held c.args.out.now) (g.S.Sink.held c.loop-conflict.out) (g.S.Sink.held c.refute.new.out) [] (IsLogged f c.loop-conflict.search) c.loop-conflict.invariant.goes
-    (λ after logged. c.in_ok-refute.ensures.closes after (c.settle.ensures.logged f after logged).tied)
+    let before = c.loop-conflict.invariant.goes in
+    let logged = c.settle.ensures.logged f before.after before.holds in
+    let closes = goes-closes f c.args.search.now.log c.loop-conflict.search.log (g.S.Sink.held c.args.out.now) (g.S.Sink.held c.loop-conflict.out) (g.S.Sink.held c.refute.new.out) [] (IsLogged f c.loop-conflict.search) 0 before
+    (λ after was. c.in_ok-refute.ensures.closes after (c.settle.ensures.logged f after was).tied) in
+    record {
+      before = _;
+      closes = closes;
+      few = few-more f c.settle.new.search before.after (derived_in closes.before) logged (omega (arith, closes.derived, before.derived, c.requires.begun, ap (λ (l : LogValue). l.derived) c.settle.ensures.log));
+    }
 
 pub returns-in_err-refute-clause-ends : goal.returns-in_err-refute-clause-ends
 returns-in_err-refute-clause-ends g c =

@@ -20,7 +20,7 @@ returns-in-Ok-Satisfied-clause-answers g c =
     let h = g.S.Sink.held c.args.log.now in
     let h' = g.S.Sink.held c.search_from.new.log in
     let ends = rw c.in-Ok-Satisfied.field-0-is at c.in-Ok-Satisfied.ensures.ends in
-    (goes-puts f s.state.log now.log h ends.begun h' _ ends.header ends.rest.goes, model-is f s.state now ends.begun h' c.assign_all.new.values ends.rest c.assign_all.ensures.holds)
+    (goes-puts f s.state.log now.log h ends.begun h' _ ends.header ends.rest.goes ends.rest.few, model-is f s.state now ends.begun h' c.assign_all.new.values ends.rest c.assign_all.ensures.holds)
 
 pub returns-in-Ok-Refuted-clause-answers : goal.returns-in-Ok-Refuted-clause-answers
 returns-in-Ok-Refuted-clause-answers g c =

@@ -1,0 +1,4 @@
+//! Laws of the graphs of linked programs (docs/GRAPH.md).
+#![tactic(auto)]
+
+pub mod laws;

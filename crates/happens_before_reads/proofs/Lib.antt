@@ -1,0 +1,5 @@
+mod Naming
+mod Listing
+mod Seeing
+mod Agreeing
+mod Scanning

@@ -1,0 +1,4 @@
+pub mod Causes
+pub mod Graph
+pub mod Limits
+pub mod Refusals
