@@ -4,6 +4,7 @@ ghost use Rattle.std.specs.Prelude.{◌≤◌, IfOk, length};
 ghost use Rattle.class_format.specs.ClassText.{IsValid};
 
 mod data;
+mod graphs;
 mod refused;
 mod targets;
 
@@ -105,11 +106,14 @@ enum Twist {
     NotRunnable,
 }
 
-/// The flags of M.a, the codes of M.main, M.a, M.b, N.a, N.b, T.<init> and T.run, and what comes of them.
+/// The codes of M.main, M.a, M.b, N.a, N.b, T.<init> and T.run.
+type Codes = [&'static [u8]; 7];
+
+/// The flags of M.a, the codes, and what comes of them.
 struct Row {
     twist: Twist,
     flags: u8,
-    codes: [&'static [u8]; 7],
+    codes: Codes,
     want: Want,
 }
 
@@ -571,25 +575,22 @@ const fn part(flags: u8, name: u8, descriptor: u8, code: &'static [u8]) -> Part 
 }
 
 /// The class M.
-fn first_class(alloc: Global, row: &Row) -> Result<Vec<u8>, AllocError> {
-    let [main, a, b, ..] = row.codes;
-    let flags = if let Twist::NoMain = row.twist { 1 } else { 9 };
-    let name = if let Twist::ClassInit = row.twist {
-        53
-    } else {
-        49
-    };
-    let second = if let Twist::Final = row.twist {
-        0x18
-    } else {
-        8
-    };
-    let more = if let Twist::MoreFields = row.twist {
+fn first_class(
+    alloc: Global,
+    twist: Twist,
+    flags_of_a: u8,
+    codes: &Codes,
+) -> Result<Vec<u8>, AllocError> {
+    let [main, a, b, ..] = *codes;
+    let flags = if let Twist::NoMain = twist { 1 } else { 9 };
+    let name = if let Twist::ClassInit = twist { 53 } else { 49 };
+    let second = if let Twist::Final = twist { 0x18 } else { 8 };
+    let more = if let Twist::MoreFields = twist {
         MORE.as_slice()
     } else {
         &[]
     };
-    let stack = if matches!(row.twist, Twist::Target | Twist::NotRunnable) {
+    let stack = if matches!(twist, Twist::Target | Twist::NotRunnable) {
         4
     } else {
         2
@@ -599,17 +600,17 @@ fn first_class(alloc: Global, row: &Row) -> Result<Vec<u8>, AllocError> {
             stack,
             ..part(flags, 12, 13, main)
         },
-        part(row.flags, 45, 15, a),
+        part(flags_of_a, 45, 15, a),
         part(9, name, 15, b),
     ];
     class_bytes(alloc, Head::new(2, 8), Field::new(second, 27), more, &parts)
 }
 
 /// The class N as a target class, or nearly.
-fn target_class(alloc: Global, row: &Row) -> Result<Vec<u8>, AllocError> {
-    let [_, _, _, init, run, ..] = row.codes;
+fn target_class(alloc: Global, twist: Twist, codes: &Codes) -> Result<Vec<u8>, AllocError> {
+    let [_, _, _, init, run, ..] = *codes;
     let head = Head {
-        runnable: matches!(row.twist, Twist::Target),
+        runnable: matches!(twist, Twist::Target),
         ..Head::new(4, 8)
     };
     let parts = [part(1, 16, 15, init), part(1, 14, 15, run)];
@@ -617,28 +618,20 @@ fn target_class(alloc: Global, row: &Row) -> Result<Vec<u8>, AllocError> {
 }
 
 /// The class N.
-fn second_class(alloc: Global, row: &Row) -> Result<Vec<u8>, AllocError> {
-    if matches!(row.twist, Twist::Target | Twist::NotRunnable) {
-        return target_class(alloc, row);
+fn second_class(alloc: Global, twist: Twist, codes: &Codes) -> Result<Vec<u8>, AllocError> {
+    if matches!(twist, Twist::Target | Twist::NotRunnable) {
+        return target_class(alloc, twist, codes);
     }
-    let [_, _, _, a, b, ..] = row.codes;
-    let name = if let Twist::SameClass = row.twist {
-        2
-    } else {
-        4
-    };
-    let interface = matches!(row.twist, Twist::Interface);
-    let flags = if let Twist::InstanceField = row.twist {
+    let [_, _, _, a, b, ..] = *codes;
+    let name = if let Twist::SameClass = twist { 2 } else { 4 };
+    let interface = matches!(twist, Twist::Interface);
+    let flags = if let Twist::InstanceField = twist {
         0
     } else {
         8
     };
-    let descriptor = if let Twist::FieldType = row.twist {
-        36
-    } else {
-        27
-    };
-    let second = if let Twist::SameMethod = row.twist {
+    let descriptor = if let Twist::FieldType = twist { 36 } else { 27 };
+    let second = if let Twist::SameMethod = twist {
         45
     } else {
         49
@@ -652,18 +645,18 @@ fn second_class(alloc: Global, row: &Row) -> Result<Vec<u8>, AllocError> {
 }
 
 /// The class T.
-fn third_class(alloc: Global, row: &Row) -> Result<Vec<u8>, AllocError> {
-    let [_, _, _, _, _, init, run] = row.codes;
+fn third_class(alloc: Global, codes: &Codes) -> Result<Vec<u8>, AllocError> {
+    let [_, _, _, _, _, init, run] = *codes;
     let parts = [part(1, 16, 15, init), part(1, 14, 15, run)];
     class_bytes(alloc, Head::new(6, 10), Field::new(8, 27), &[], &parts)
 }
 
 /// The classes M, N and T.
-fn classes(alloc: Global, row: &Row) -> Result<ClassList, Fail> {
+fn classes(alloc: Global, twist: Twist, flags_of_a: u8, codes: &Codes) -> Result<ClassList, Fail> {
     let mut list = ClassList::new(alloc);
-    list.push(class(alloc, &first_class(alloc, row)?)?)?;
-    list.push(class(alloc, &second_class(alloc, row)?)?)?;
-    list.push(class(alloc, &third_class(alloc, row)?)?)?;
+    list.push(class(alloc, &first_class(alloc, twist, flags_of_a, codes)?)?)?;
+    list.push(class(alloc, &second_class(alloc, twist, codes)?)?)?;
+    list.push(class(alloc, &third_class(alloc, codes)?)?)?;
     Ok(list)
 }
 
@@ -703,7 +696,7 @@ fn has_variables(program: &Program, want: &[bool]) -> bool {
 
 /// Whether what the classes make is what is wanted.
 fn is_wanted(alloc: Global, row: &Row) -> Result<bool, Fail> {
-    let classes = classes(alloc, row)?;
+    let classes = classes(alloc, row.twist, row.flags, &row.codes)?;
     Ok(match (link(alloc, &classes), &row.want) {
         (
             Ok(program),

@@ -1,5 +1,5 @@
-mod Naming
+pub mod Naming
 mod Listing
-mod Seeing
+pub mod Seeing
 mod Agreeing
 mod Scanning

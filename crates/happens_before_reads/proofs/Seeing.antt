@@ -32,7 +32,7 @@ use Rattle.happens_before_reads.proofs.Naming.{read_operand, one_read, numbered}
 abbrev pub IsNotedAt : Orders → ℕ → Note → Type 0
 IsNotedAt o i m = slice_get (entries (exec o)) i ≡ Some (record { action = action_of o.flat i; note = m })
 
-name_seen : (o : Orders) (i : ℕ) (m : Note) (v : Var) (w : Act) → IsMade o → IsNotedAt o i m → Sees (exec o) v (Of (action_of o.flat i)) w → seen_name m (action_of o.flat i).operand ≡ Some (name_of w)
+pub name_seen : (o : Orders) (i : ℕ) (m : Note) (v : Var) (w : Act) → IsMade o → IsNotedAt o i m → Sees (exec o) v (Of (action_of o.flat i)) w → seen_name m (action_of o.flat i).operand ≡ Some (name_of w)
 name_seen o i m v w made at (seen, there, operand, named) =
     ap₂ seen_name (one_note (prog o) (exec o) i (record { action = action_of o.flat i; note = m }) (note.Sees seen) made.ordered at there) operand ∙ go seen named
   where
@@ -44,7 +44,7 @@ one_sees : (n m : Option ℕ) → note.Sees n ≡ note.Sees m → n ≡ m
 one_sees n m e = cc
 
 -- a read sees one write
-one_seen : (o : Orders) (i : ℕ) (m : Note) (v : Var) (w x : Act) → IsMade o → IsNotedAt o i m → Sees (exec o) v (Of (action_of o.flat i)) w → Sees (exec o) v (Of (action_of o.flat i)) x → w ≡ x
+pub one_seen : (o : Orders) (i : ℕ) (m : Note) (v : Var) (w x : Act) → IsMade o → IsNotedAt o i m → Sees (exec o) v (Of (action_of o.flat i)) w → Sees (exec o) v (Of (action_of o.flat i)) x → w ≡ x
 one_seen o i m v w x made at (seen, there, operand, named) (seen', there', operand', named') =
     let n : Entry = record { action = action_of o.flat i; note = m } in
     let first = one_note (prog o) (exec o) i n (note.Sees seen) made.ordered at there in
@@ -62,7 +62,7 @@ pub record IsSeen (o : Orders) (i : ℕ) (v : Var) (ref : ActionRef) : Type 0 wh
 same_name : (ref : ActionRef) (w : Act) (name : Option ActionRef) → name ≡ Some ref → name ≡ Some (name_of w) → name_of w ≡ ref
 same_name ref w name is seen = cc
 
-no_name : (w : Act) (name : Option ActionRef) → name ≡ None → name ≡ Some (name_of w) → ⊥
+pub no_name : (w : Act) (name : Option ActionRef) → name ≡ None → name ≡ Some (name_of w) → ⊥
 no_name w name none seen = cc
 
 pub is_seen : (o : Orders) (i : ℕ) (m : Note) (v : Var) (ref : ActionRef) → IsMade o → i < length o.flat.entries.items → IsNotedAt o i m → IsRead v (Of (action_of o.flat i)) → seen_name m (action_of o.flat i).operand ≡ Some ref → IsSeen o i v ref

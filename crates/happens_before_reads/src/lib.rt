@@ -8,3 +8,4 @@ mod sights;
 mod writes;
 
 pub use check::check_reads;
+pub use sights::seen;

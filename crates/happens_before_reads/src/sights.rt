@@ -17,7 +17,11 @@ use ports::Memory;
 use writes_between::is_overwritten;
 
 /// The name of the write that an entry's note names, if it names one.
-fn seen(entry: &Entry) -> Result<Option<ActionRef>, Memory>
+///
+/// # Errors
+///
+/// `Memory` where an allocation fails.
+pub fn seen(entry: &Entry) -> Result<Option<ActionRef>, Memory>
     ensures { IfOk result (λ name. name ≡ seen_name entry.now.note entry.now.action.operand) }
 {
     match (entry.note, &entry.action.operand) {

@@ -1,4 +1,4 @@
 mod Below
 mod Rising
 mod ThreadBounds
-mod Passing
+pub mod Passing

@@ -62,7 +62,7 @@ before_named o i id x ref b made within same action named iff = (λ yes. to (iff
 -- ---- By thread
 
 -- what happens before an action happens before each later one of its thread
-later_too : (o : Orders) (x : Act) (k i : ℕ) → IsMade o → k < length o.flat.entries.items → i < length o.flat.entries.items → thread_of o k ≡ thread_of o i → k ≤ i → IsBefore o x k → IsBefore o x i
+pub later_too : (o : Orders) (x : Act) (k i : ℕ) → IsMade o → k < length o.flat.entries.items → i < length o.flat.entries.items → thread_of o k ≡ thread_of o i → k ≤ i → IsBefore o x k → IsBefore o x i
 later_too o x k i made in_k in_i same order path =
     path_after (prog o) (exec o) x (Of (action_of o.flat k)) (Of (action_of o.flat i)) path
     (of_or (action_of o.flat k) (action_of o.flat i) _ (at_or_before (prog o) (exec o) k i (action_of o.flat k) (action_of o.flat i) made.ordered (at_flat o k made in_k) (at_flat o i made in_i) same order))

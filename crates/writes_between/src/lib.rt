@@ -9,4 +9,4 @@ mod known;
 mod overwritten;
 mod places;
 
-pub use overwritten::is_overwritten;
+pub use overwritten::{is_before, is_overwritten};

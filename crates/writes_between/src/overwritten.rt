@@ -12,7 +12,7 @@ use clocks::THREADS;
 use orders::Orders;
 
 /// Whether an action, or a default write, happens before the action at a place.
-fn is_before(orders: &Orders, write: &ActionRef, place: usize) -> bool
+pub fn is_before(orders: &Orders, write: &ActionRef, place: usize) -> bool
     requires made { IsMade orders.now }
     requires inside { place < length orders.now.flat.entries.items }
     ensures { (x : Act) → IsAction orders.now.flat.program.now orders.now.flat.execution.now x → name_of x ≡ write.now → IsTrue result ↔ IsBefore orders.now x place }

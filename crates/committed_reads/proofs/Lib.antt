@@ -1,0 +1,5 @@
+mod Earliness
+mod Firsts
+mod Defaulting
+mod Nows
+mod Committing

@@ -1,0 +1,5 @@
+pub mod Stating
+pub mod Needing
+pub mod Forming
+pub mod Gathering
+pub mod Passing

@@ -1,0 +1,7 @@
+mod Rows
+mod Along
+mod Alike
+mod Meeting
+mod SyncPairs
+mod SyncMeeting
+mod Firsts

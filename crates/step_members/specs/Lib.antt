@@ -1,0 +1,3 @@
+pub mod AtActions
+pub mod Stages
+pub mod Members

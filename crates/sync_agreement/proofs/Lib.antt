@@ -1,0 +1,4 @@
+pub mod Formed
+pub mod Gating
+pub mod Raising
+pub mod Agreeing
