@@ -1,8 +1,8 @@
 -- The seventh condition, by members.
-use Rattle.std.proofs.Common.{◌≡◌, ◌<◌, ◌⊎◌, ◌↔◌, ℕ, List, Option, Bool, true, false, IsTrue, Contains, length, map, refl, sym, ◌∙◌, ap, subst, inl, inr}
+use Rattle.std.proofs.Common.{◌≡◌, ◌↔◌, ℕ, List, Option, Bool, false, IsTrue, Contains, length, map, sym, ◌∙◌, subst, inl, inr}
 use Rattle.action_orders.specs.declared.action.Action.{Action}
 use Rattle.action_orders.specs.declared.action.ActionRef.TheVariants.{Id}
-use Rattle.action_orders.specs.Actions.{Act, Of, Var, IsRead, Sees}
+use Rattle.action_orders.specs.Actions.{Of, IsRead, Sees}
 use Rattle.action_orders.specs.Causality.{Condition1, IsIn}
 use Rattle.orders.specs.Tables.{action_of}
 use Rattle.orders.proofs.Said.{exec, not_true}
@@ -16,7 +16,7 @@ use Rattle.step_members.specs.Stages.{IsEarlier, IsStage, program_of, committed_
 use Rattle.step_members.proofs.Membership.{committed_member, member_committed}
 use Rattle.step_members.proofs.Walking.{least_of_members}
 use Rattle.same_notes.proofs.Writes.{no_read}
-use Rattle.committed_reads.specs.Now.{ReadsCommitted, SeesCommitted, SeesCommittedTwice}
+use Rattle.committed_reads.specs.Now.{ReadsCommitted, SeesCommitted}
 
 pub committed_twice : (s : Stage) (e : Earlier) (m : Member) (id : ℕ) (listed own whole : Bool) → id ≡ id_of s m → (IsTrue listed ↔ Contains e.ids.keys id) → listed ≡ false → (IsTrue own ↔ SeesCommitted s e s.own.now m.own) → IsTrue own →
     (IsTrue whole ↔ SeesCommitted s e s.whole.now m.whole) → IsTrue whole ↔ ReadsCommitted s e m

@@ -1,5 +1,5 @@
 -- Default writes by the numbers of their variables.
-use Rattle.std.proofs.Common.{◌≡◌, ◌<◌, ◌+◌, ◌++◌, ◌⊎◌, ◌↔◌, ℕ, List, [], ◌∷◌, Option, Some, None, IsSome, IfSome, Bool, IsTrue, Contains, slice_get, slice_index_or, length, take, refl, sym, ◌∙◌, ap, ap₂, subst, inl, inr}
+use Rattle.std.proofs.Common.{◌≡◌, ◌<◌, ◌+◌, ◌++◌, ◌↔◌, ℕ, List, [], ◌∷◌, Option, Some, None, IsSome, IfSome, Contains, slice_get, slice_index_or, length, take, refl, sym, ◌∙◌, ap, ap₂, subst, inl, inr}
 use Rattle.std.proofs.lemmas.List.{take_more}
 use Rattle.program.proofs.Lists.{contains_at, contains_nil}
 use Rattle.action_orders.specs.declared.action.ActionRef.{ActionRef}

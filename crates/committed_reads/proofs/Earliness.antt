@@ -1,5 +1,5 @@
 -- Actions that were committed before, by identifiers.
-use Rattle.std.proofs.Common.{◌≡◌, ◌<◌, ◌↔◌, ℕ, Bool, true, false, IsTrue, Contains, length, refl, sym, ◌∙◌, ap, subst}
+use Rattle.std.proofs.Common.{◌≡◌, ◌<◌, ◌↔◌, ℕ, true, false, IsTrue, Contains, length, refl, sym, ◌∙◌, subst}
 use Rattle.action_orders.specs.declared.action.Action.{Action}
 use Rattle.action_orders.specs.declared.action.ActionRef.TheVariants.{Id}
 use Rattle.action_orders.specs.Actions.{Of, IsAction}

@@ -7,8 +7,8 @@ use Rattle.action_orders.specs.declared.action.ActionRef.{ActionRef}
 use Rattle.action_orders.specs.declared.action.Entry.{Entry}
 use Rattle.action_orders.specs.declared.action.Note.{Note}
 use Rattle.action_orders.specs.declared.action.Note.TheVariants as note
-use Rattle.action_orders.specs.Actions.{Act, Default, Of, Var, IsAction, IsRead, Sees, name_of}
-use Rattle.action_orders.specs.Causality.{Condition1, IsIn}
+use Rattle.action_orders.specs.Actions.{Act, Of, Var, IsAction, IsRead, Sees, name_of}
+use Rattle.action_orders.specs.Causality.{IsIn}
 use Rattle.action_orders.specs.HappensBefore.{HappensBefore}
 use Rattle.orders.specs.Tables.{action_of}
 use Rattle.orders.proofs.Places.{is_action}

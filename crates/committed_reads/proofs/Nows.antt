@@ -1,16 +1,15 @@
 -- Whether a write was committed before.
-use Rattle.std.proofs.Common.{◌≡◌, ◌<◌, ◌⊎◌, ◌↔◌, ℕ, List, Option, Some, None, IsSome, IfSome, Bool, true, false, IsTrue, Contains, slice_get, slice_index_or, length, refl, sym, ◌∙◌, ap, subst, inl, inr, Bor}
+use Rattle.std.proofs.Common.{◌≡◌, ◌<◌, ◌⊎◌, ◌↔◌, ℕ, List, Option, Some, None, Bool, true, false, IsTrue, Contains, slice_index_or, length, refl, sym, ◌∙◌, ap, subst, inl, inr, Bor}
 use Rattle.program.specs.Program.{Prog}
 use Rattle.action_orders.specs.declared.action.Action.{Action}
 use Rattle.action_orders.specs.declared.action.ActionRef.{ActionRef}
 use Rattle.action_orders.specs.declared.action.ActionRef.TheVariants as refs
 use Rattle.action_orders.specs.declared.action.ActionRef.TheVariants.{Id}
 use Rattle.action_orders.specs.declared.action.Entry.{Entry}
-use Rattle.action_orders.specs.Actions.{Act, Default, Of, Var, IsAction, IsRead, Sees, name_of, variables}
+use Rattle.action_orders.specs.Actions.{Act, Default, Of, Var, IsAction, Sees, name_of, variables}
 use Rattle.action_orders.specs.Causality.{Condition1, IsIn}
 use Rattle.orders.specs.declared.answers.Orders.{Orders}
 use Rattle.orders.specs.Made.{IsMade, IsPlaced, HasNoPlace}
-use Rattle.orders.specs.Symbols.{OfVariable, symbols}
 use Rattle.orders.specs.Tables.{action_of}
 use Rattle.orders.proofs.Places.{is_action, at_of}
 use Rattle.orders.proofs.Said.{exec, prog, at_flat, not_true, of_default, of_name, var}
@@ -18,7 +17,6 @@ use Rattle.step_members.specs.declared.stage.Earlier.{Earlier}
 use Rattle.step_members.specs.declared.stage.Stage.{Stage}
 use Rattle.step_members.specs.Stages.{IsEarlier, IsStage, program_of, committed_of, step_of}
 use Rattle.same_notes.proofs.Writes.{once, reads_noted}
-use Rattle.happens_before_reads.specs.Accesses.{IsNumberOf}
 use Rattle.happens_before_reads.specs.Sights.{seen_name}
 use Rattle.happens_before_reads.proofs.Naming.{numbered, one_read}
 use Rattle.happens_before_reads.proofs.Seeing.{IsNotedAt, is_seen, noted_at, one_seen, name_seen, no_name}

@@ -1,5 +1,5 @@
 -- Default writes that are members of a set, by the numbers of their variables.
-use Rattle.std.specs.Prelude.{◌≡◌, ◌⊎◌, ◌↔◌, ℕ, List, Option, Some, None, Contains}
+use Rattle.std.specs.Prelude.{◌≡◌, ◌⊎◌, ◌↔◌, ℕ, List, Option, Some, Contains}
 use Rattle.action_orders.specs.declared.action.ActionRef.{ActionRef}
 use Rattle.action_orders.specs.declared.action.ActionRef.TheVariants.{Default}
 use Rattle.action_orders.specs.Actions.{Var}

@@ -8,8 +8,8 @@ use Rattle.least_break.specs.Least.{IsBelow, IsLeastBreak, IsLesser, IsScanned}
 use Rattle.volatile_reads.proofs.Scanned.{least_of}
 use Rattle.step_members.specs.declared.stage.Stage.{Stage}
 use Rattle.step_members.specs.declared.table.Member.{Member}
-use Rattle.step_members.specs.Members.{AreMembers, IsMember}
-use Rattle.same_orders.specs.Happening.{AreOfThread, HappensAlikeBelow, HappensAlikeIn, HappensAlikeOn, id_of, thread_at}
+use Rattle.step_members.specs.Members.{AreMembers, IsMember, id_of}
+use Rattle.same_orders.specs.Happening.{AreOfThread, HappensAlikeBelow, HappensAlikeIn, HappensAlikeOn, thread_at}
 use Rattle.same_orders.specs.Scanning.{AreAllAlikeAt}
 
 -- ---- Least breaks

@@ -1,8 +1,8 @@
 -- In a well-formed execution each default write happens before each action.
-use Rattle.std.proofs.Common.{◌≡◌, ◌+◌, ◌⊎◌, ℕ, List, [], ◌∷◌, Some, Contains, slice_get, length, arith, refl, sym, ◌∙◌, ap, subst, inl, inr}
+use Rattle.std.proofs.Common.{◌≡◌, ◌+◌, ℕ, List, [], ◌∷◌, Some, Contains, slice_get, arith, refl, sym, ◌∙◌, ap, subst, inl, inr}
 use Rattle.std.proofs.lemmas.Bool.{cases_eq}
 use Rattle.relations.specs.Path.{edge, more}
-use Rattle.program.proofs.Lists.{all_of, contains_at, contains_here, contains_later, slice_get_of}
+use Rattle.program.proofs.Lists.{all_of, contains_at, slice_get_of}
 use Rattle.program.specs.Program.{Prog}
 use Rattle.program.specs.declared.event.Event.{Event}
 use Rattle.program.specs.declared.event.Event.TheVariants.{First}
@@ -17,7 +17,7 @@ use Rattle.action_orders.specs.Runs.{HaveEvents}
 use Rattle.action_orders.specs.SynchronizesWith.{SynchronizesWith, default_first}
 use Rattle.action_orders.specs.WellFormed.{IsWellFormed}
 use Rattle.step_members.proofs.Parts.{part_of}
-use Rattle.orders.proofs.Places.{Own, one, all_entries, in_parts, entry_at, action_at, is_action, at_of, offset}
+use Rattle.orders.proofs.Places.{Own, one, entry_at, action_at, is_action, at_of, offset}
 
 first_entry : (p : Prog) (e : Exec) (ns : List Entry) (rest : List Event) → HaveEvents p e ns (First ∷ rest) → (n : Entry) × (slice_get ns 0 ≡ Some n) × (n.action.kind ≡ kind.First)
 first_entry p e [] rest have = absurd have

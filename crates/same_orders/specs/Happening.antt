@@ -9,7 +9,7 @@ use Rattle.orders.specs.declared.answers.Orders.{Orders}
 use Rattle.orders.specs.Tables.{action_of}
 use Rattle.step_members.specs.declared.stage.Stage.{Stage}
 use Rattle.step_members.specs.declared.table.Member.{Member}
-use Rattle.step_members.specs.Members.{IsMember}
+use Rattle.step_members.specs.Members.{IsMember, id_of}
 
 -- each default write happens before each action of a thread
 abbrev pub AreDefaultsFirst : Prog → Exec → Type 0
@@ -59,9 +59,6 @@ HappenAlike s a b = Happens s.own.now a.own b.own ↔ Happens s.whole.now a.whol
 -- so it is with all these members
 abbrev pub HappensAlikeIn : Stage → List Member → Member → Type 0
 HappensAlikeIn s ms a = (j : ℕ) (m : Member) → slice_get ms j ≡ Some m → HappenAlike s a m
-
-abbrev pub id_of : Stage → Member → ℕ
-id_of s m = (action_of s.own.now.flat m.own).id
 
 -- so it is with the committed actions of thread t, for the action with this identifier
 abbrev pub HappensAlikeOn : Stage → ℕ → ℕ → Type 0

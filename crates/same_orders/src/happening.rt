@@ -4,9 +4,9 @@ ghost use Rattle.std.specs.Prelude.{◌≡◌, ◌<◌, ◌≤◌, ◌↔◌, If
 ghost use Rattle.action_orders.specs.Causality.{Condition1};
 ghost use Rattle.least_break.specs.Least.{IsScanned};
 ghost use Rattle.step_members.specs.AtActions.{Condition2At, IsLeastAction};
-ghost use Rattle.step_members.specs.Members.{AreMembers, IsMember};
+ghost use Rattle.step_members.specs.Members.{AreMembers, IsMember, id_of};
 ghost use Rattle.step_members.specs.Stages.{IsStage, committed_of, program_of, step_of};
-ghost use Rattle.same_orders.specs.Happening.{AreDefaultsFirst, AreInRow, HappensAlikeIn, HappensBeforeLater, HappensBeforeNoEarlier, IsFirstAfter, id_of};
+ghost use Rattle.same_orders.specs.Happening.{AreDefaultsFirst, AreInRow, HappensAlikeIn, HappensBeforeLater, HappensBeforeNoEarlier, IsFirstAfter};
 ghost use Rattle.same_orders.specs.Lines.{IsLine};
 ghost use Rattle.same_orders.specs.Scanning.{AreAllAlikeAt};
 

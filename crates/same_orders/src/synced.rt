@@ -13,7 +13,7 @@ use crate::line::Line;
 use least_break::noted;
 use ports::Memory;
 use std::alloc::Global;
-use step_members::{Member, Stage, add};
+use step_members::{Member, Stage, add_member};
 
 /// The places of the action at a place of the step's synchronization order, if it is committed.
 fn sync_member_at(stage: &Stage, own: usize) -> Option<Member>
@@ -43,7 +43,7 @@ fn sync_members(alloc: Global, stage: &Stage) -> Result<Vec<Member>, Memory>
     let so = orders.flat.execution.so();
     let mut ms = Vec::new(alloc);
     for own in 0..so.len() {
-        add(&mut ms, sync_member_at(stage, own))?;
+        add_member(&mut ms, sync_member_at(stage, own))?;
     }
     Ok(ms)
 }

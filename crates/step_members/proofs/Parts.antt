@@ -1,5 +1,5 @@
 -- The parts of an execution, and the notes of its entries.
-use Rattle.std.proofs.Common.{◌≡◌, ◌<◌, ◌+◌, ◌⊎◌, ℕ, List, [], ◌∷◌, Some, Contains, slice_get, slice_index_or, length, sym, ◌∙◌, ap, subst, inl, inr, Bor}
+use Rattle.std.proofs.Common.{◌≡◌, ◌<◌, ◌+◌, ◌⊎◌, ℕ, List, [], ◌∷◌, Some, Contains, slice_get, slice_index_or, length, ◌∙◌, ap, inl, inr, Bor}
 use Rattle.program.proofs.Lists.{all_of, contains_at, contains_here, contains_later}
 use Rattle.action_orders.specs.declared.action.Action.{Action}
 use Rattle.action_orders.specs.declared.action.Entry.{Entry}

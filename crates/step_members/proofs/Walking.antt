@@ -1,5 +1,5 @@
 -- What holds of all members holds of all committed actions.
-use Rattle.std.proofs.Common.{◌≡◌, ◌<◌, ◌↔◌, ℕ, List, Option, Some, Bool, IsTrue, slice_get, length, map, refl, sym, ◌∙◌, ap, subst}
+use Rattle.std.proofs.Common.{◌≡◌, ◌<◌, ◌↔◌, ℕ, List, Option, Some, Bool, IsTrue, slice_get, length, map, sym, ◌∙◌, ap, subst}
 use Rattle.std.proofs.lemmas.List.{length-map}
 use Rattle.program.proofs.Lists.{place_of, slice_get_of}
 use Rattle.action_orders.specs.declared.action.Action.{Action}

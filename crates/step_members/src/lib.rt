@@ -8,4 +8,4 @@ mod table;
 
 pub use presence::check_presence;
 pub use stage::{Earlier, Stage, ids_of};
-pub use table::{Member, add, member_at, members};
+pub use table::{Member, add_member, member_at, members};

@@ -36,7 +36,11 @@ pub fn member_at(stage: &Stage, own: usize) -> Option<Member>
 }
 
 /// Adds a pair of places, if any.
-pub fn add(ms: &mut Vec<Member>, member: Option<Member>) -> Result<(), Memory>
+///
+/// # Errors
+///
+/// `Memory` where an allocation fails.
+pub fn add_member(ms: &mut Vec<Member>, member: Option<Member>) -> Result<(), Memory>
     ensures { OnOk result (ms.new.items ≡ with_member ms.old.items member) }
 {
     if let Some(member) = member {
@@ -58,7 +62,7 @@ pub fn members(alloc: Global, stage: &Stage) -> Result<Vec<Member>, Memory>
 {
     let mut ms = Vec::new(alloc);
     for own in 0..stage.own.flat.entries.len() {
-        add(&mut ms, member_at(stage, own))?;
+        add_member(&mut ms, member_at(stage, own))?;
     }
     Ok(ms)
 }

@@ -1,9 +1,10 @@
 //! The check of the agreement.
 
-ghost use Rattle.std.specs.Prelude.{◌<◌, ◌↔◌, ℕ, length, map, IsTrue, IfOk};
+ghost use Rattle.std.specs.Prelude.{◌≡◌, ◌<◌, ◌↔◌, ℕ, None, length, map, IsTrue, IfOk};
 ghost use Rattle.action_orders.specs.Actions.{entries};
 ghost use Rattle.action_orders.specs.WellFormed.{FormAt, AgreesAt};
 ghost use Rattle.least_break.specs.Least.{IsLeastBreak, IsScanned};
+ghost use Rattle.orders.specs.Flat.{IsOrdered};
 ghost use Rattle.sync_agreement.specs.Latest.{AreLatest};
 ghost use Rattle.sync_agreement.specs.Placed.{IsPlaced, IsRightlyPlaced};
 
@@ -60,8 +61,8 @@ fn scan(placed: &Placed, starts: &[Option<usize>], ends: &[Option<usize>]) -> Op
 }
 
 /// The least identifier of an action that comes too early in the synchronization order, the second clause of well-formedness
-/// (docs/MODEL.md), or none where that order agrees with program order and with the starts and ends of threads. The execution
-/// meets the first clause. It takes time and memory in proportion to the actions.
+/// (docs/MODEL.md), or none where that order agrees with program order and with the starts and ends of threads; then the orders
+/// of the execution can be made. The execution meets the first clause. It takes time and memory in proportion to the actions.
 ///
 /// # Errors
 ///
@@ -72,7 +73,8 @@ pub fn check_agreement(
     execution: &Execution,
 ) -> Result<Option<u64>, Memory>
     requires { (id : ℕ) → FormAt program.now execution.now id }
-    ensures { IfOk result (IsLeastBreak (AgreesAt program.now execution.now)) }
+    ensures least { IfOk result (IsLeastBreak (AgreesAt program.now execution.now)) }
+    ensures ordered { IfOk result (λ least. least ≡ None → IsOrdered program.now execution.now) }
 {
     let placed = Placed::new(alloc, program, execution)?;
     let starts = placed.latest(Gate::Start);

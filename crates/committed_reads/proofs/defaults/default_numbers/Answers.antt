@@ -1,5 +1,5 @@
 -- One more member.
-use Rattle.std.proofs.Common.{◌≡◌, List, length, take, subst, arith}
+use Rattle.std.proofs.Common.{◌≡◌, List, take, subst, arith}
 use Rattle.action_orders.specs.declared.action.ActionRef.{ActionRef}
 use Rattle.step_members.proofs.Gaining.{take_past}
 use Rattle.committed_reads.specs.Defaults.{AreDefaults}

@@ -12,5 +12,5 @@ orders-requires g c =
       shape = kept.shape;
       spelt = kept.spelt;
       form = each_meets (FormAt c.in_ok-program.program c.in_ok-execution.execution) c.in_ok-check_form.field-0 (sym c.is_some.ensures ∙ c.if-is_some.false) c.in_ok-check_form.ensures;
-      agrees = each_meets (AgreesAt c.in_ok-program.program c.in_ok-execution.execution) c.in_ok-check_agreement.field-0 (sym c.is_some-2.ensures ∙ c.if-is_some-2.false) c.in_ok-check_agreement.ensures;
+      agrees = each_meets (AgreesAt c.in_ok-program.program c.in_ok-execution.execution) c.in_ok-check_agreement.field-0 (sym c.is_some-2.ensures ∙ c.if-is_some-2.false) c.in_ok-check_agreement.ensures.least;
     }

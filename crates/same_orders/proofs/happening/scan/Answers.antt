@@ -4,7 +4,7 @@ use Rattle.std.proofs.lemmas.Option.{slice_get-get_or}
 use Rattle.program.proofs.Lists.{slice_get_of}
 use Rattle.least_break.proofs.Scans.{scanned_more}
 use Rattle.action_orders.specs.declared.action.Action.{Action}
-use Rattle.same_orders.specs.Happening.{id_of}
+use Rattle.step_members.specs.Members.{id_of}
 use Rattle.same_orders.specs.Scanning.{AreAllAlikeAt}
 use Rattle.same_orders.proofs.Alike.{at_member}
 use Rattle.same_orders.proofs.happening.scan.Goals as goal

@@ -1,7 +1,7 @@
 -- The least member that differs.
 use Rattle.std.proofs.Common.{map}
 use Rattle.least_break.specs.Least.{IsScanned}
-use Rattle.same_orders.specs.Happening.{id_of}
+use Rattle.step_members.specs.Members.{id_of}
 use Rattle.same_orders.specs.Scanning.{AreAllAlikeAt}
 use Rattle.same_orders.proofs.happening.scan.Given as goal
 

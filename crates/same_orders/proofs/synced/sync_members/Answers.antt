@@ -9,5 +9,5 @@ loop-own-init c = no_members (IsSyncMember c.args.stage.now) c.new-ms.result.ite
 
 pub loop-own-preserved : goal.loop-own-preserved
 loop-own-preserved c =
-    with_one (IsSyncMember c.args.stage.now) c.loop-own.own c.loop-own.ms.items c.add.new.ms.items c.sync_member_at.result (λ m o is_m is_o same. sync_once c.args.stage.now m o c.requires is_m is_o same) c.sync_member_at.ensures.found
-    c.sync_member_at.ensures.none c.in_ok-add.ensures c.loop-own.invariant
+    with_one (IsSyncMember c.args.stage.now) c.loop-own.own c.loop-own.ms.items c.add_member.new.ms.items c.sync_member_at.result (λ m o is_m is_o same. sync_once c.args.stage.now m o c.requires is_m is_o same) c.sync_member_at.ensures.found
+    c.sync_member_at.ensures.none c.in_ok-add_member.ensures c.loop-own.invariant

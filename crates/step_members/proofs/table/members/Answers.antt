@@ -9,5 +9,5 @@ loop-own-init c = no_members (IsMember c.args.stage.now) c.new-ms.result.items c
 
 pub loop-own-preserved : goal.loop-own-preserved
 loop-own-preserved c =
-    with_one (IsMember c.args.stage.now) c.loop-own.own c.loop-own.ms.items c.add.new.ms.items c.member_at.result (λ m o is_m is_o same. member_once c.args.stage.now m o c.requires.stage is_m is_o same) c.member_at.ensures.found
-    c.member_at.ensures.none c.in_ok-add.ensures c.loop-own.invariant
+    with_one (IsMember c.args.stage.now) c.loop-own.own c.loop-own.ms.items c.add_member.new.ms.items c.member_at.result (λ m o is_m is_o same. member_once c.args.stage.now m o c.requires.stage is_m is_o same) c.member_at.ensures.found
+    c.member_at.ensures.none c.in_ok-add_member.ensures c.loop-own.invariant
