@@ -1,0 +1,71 @@
+//! What the letters of a table range over.
+
+ghost use Rattle.std.specs.Prelude.{◌≡◌, ◌<◌, ◌≤◌, ◌^◌, ◌&&◌, length, nat_lt};
+ghost use Rattle.rule_base.specs.Domains.{domain};
+
+use crate::choices::Choices;
+use crate::letter::Letter;
+use crate::nodes::{
+    has_nodes, is_begin, is_begin_of, is_beside, is_end, is_from, is_start_of, is_to,
+};
+use crate::question::Question;
+
+impl<'a> Question<'a> {
+    /// How many nodes there are.
+    fn nodes(&self) -> u32
+        ensures value { result ≡ length self.now.graph.now.details }
+        ensures few { result < 2 ^ 31 }
+    {
+        self.graph.details.len() as u32
+    }
+
+    /// How many edges there are.
+    fn edges(&self) -> u32
+        ensures value { result ≡ length self.now.graph.now.edges }
+        ensures few { result < 2 ^ 31 }
+    {
+        self.graph.edges.len() as u32
+    }
+
+    /// A number above all that a letter ranges over, after these choices.
+    pub fn size(&self, letter: Letter, _before: &Choices) -> u32
+        ensures { result ≡ (domain self.now letter _before.now).size }
+    {
+        match letter {
+            Letter::Copy => self.steps + 1,
+            Letter::Edge | Letter::EdgeBeside(_) | Letter::EdgeFrom(_) | Letter::EdgeTo(_) => {
+                self.edges()
+            }
+            Letter::Bit => 32,
+            Letter::Sign => 2,
+            _ => self.nodes(),
+        }
+    }
+
+    /// Whether a letter takes a number, which is below the size, after these choices.
+    pub fn fits(&self, letter: Letter, before: &Choices, x: u32) -> bool
+        ensures { result ≡ (domain self.now letter before.now).fits x }
+    {
+        match letter {
+            Letter::NodeNotBegin => !is_begin(self.graph, x),
+            Letter::NodeNotEnd => !is_end(self.graph, x),
+            Letter::BeginOfThread(thread) => is_begin_of(self.graph, thread, x),
+            Letter::BeginOf(at) => is_begin_of(self.graph, before.at(at), x),
+            Letter::EdgeBeside(at) => {
+                before.at(at) < x && is_beside(self.graph, before.at(at), x)
+            }
+            Letter::EdgeFrom(at) => is_from(self.graph, before.at(at), x),
+            Letter::EdgeTo(at) => is_to(self.graph, before.at(at), x),
+            Letter::LaterThread => 0 < x && has_nodes(self.graph, x),
+            Letter::StartOf(at) => is_start_of(self.graph, before.at(at), x),
+            _ => true,
+        }
+    }
+
+    /// Whether a letter takes a number, after these choices.
+    pub fn takes(&self, letter: Letter, before: &Choices, x: u32) -> bool
+        ensures { result ≡ (nat_lt x (domain self.now letter before.now).size && (domain self.now letter before.now).fits x) }
+    {
+        x < self.size(letter, before) && self.fits(letter, before, x)
+    }
+}
