@@ -9,7 +9,7 @@ use crate::growth::grows;
 use action_orders::{ActionRef, Sequence, SequenceStep};
 
 /// The set before the step at a place: that of the step before it, or none of no members.
-fn before(steps: &[SequenceStep], place: usize) -> &[ActionRef]
+pub fn set_before(steps: &[SequenceStep], place: usize) -> &[ActionRef]
     requires { place < length steps.now }
     ensures { result.now ≡ set_before steps.now place }
 {
@@ -27,7 +27,7 @@ pub fn first_without_growth(sequence: &Sequence) -> Option<usize>
 {
     let steps = sequence.steps();
     for place in 0..steps.len() {
-        if !grows(before(steps, place), steps[place].set.as_slice()) {
+        if !grows(set_before(steps, place), steps[place].set.as_slice()) {
             return Some(place);
         }
     }

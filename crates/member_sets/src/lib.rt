@@ -6,6 +6,6 @@ mod chain;
 mod growth;
 mod member;
 
-pub use chain::first_without_growth;
+pub use chain::{first_without_growth, set_before};
 pub use growth::grows;
 pub use member::same;

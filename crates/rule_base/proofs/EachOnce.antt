@@ -185,12 +185,12 @@ module _ (about : Question) where
 -- ---- all rules
 
 module _ {A B : Type 0} (f : A → B) where
-  in_map : (x : A) (xs : List A) → Among x xs → Among (f x) (map f xs)
+  pub in_map : (x : A) (xs : List A) → Among x xs → Among (f x) (map f xs)
   in_map x [] h = absurd h
   in_map x (y ∷ xs) (inl e) = inl (ap f e)
   in_map x (y ∷ xs) (inr h) = inr (in_map x xs h)
 
-  map_in : (y : B) (xs : List A) → Among y (map f xs) → (x : A) × Among x xs × (y ≡ f x)
+  pub map_in : (y : B) (xs : List A) → Among y (map f xs) → (x : A) × Among x xs × (y ≡ f x)
   map_in y [] h = absurd h
   map_in y (x ∷ xs) (inl e) = (x, inl refl, e)
   map_in y (x ∷ xs) (inr h) = let r = map_in y xs h in (r.0, inr r.1, r.2)

@@ -5,3 +5,5 @@ pub mod Arguments
 pub mod TableRows
 pub mod EachOnce
 pub mod TrueRules
+pub mod EachOf
+pub mod Named

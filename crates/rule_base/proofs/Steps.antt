@@ -13,16 +13,15 @@ pub both : (a b : Bool) → (a && b) ≡ true → (a ≡ true) × (b ≡ true)
 both true b h = (refl, h)
 both false b h = cc
 
-row_at : (rows : Rows) (d : List (Option Letter)) (n : ℕ) → list_all is_row rows ≡ true → n < length rows →
+row_at : (rows : Rows) (d : List Letter) (n : ℕ) → list_all is_row rows ≡ true → n < length rows →
     is_row (unwrap_or (slice_get rows n) d) ≡ true
 row_at [] d n h l = absurd (omega arith)
 row_at (r ∷ rows) d zero h l = (both (is_row r) (list_all is_row rows) h).0
 row_at (r ∷ rows) d (suc n) h l = row_at rows d n (both (is_row r) (list_all is_row rows) h).1 (omega arith)
 
-positive : (row : List (Option Letter)) → has_letter row ≡ true → 0 < length (letters_in row)
+positive : (row : List Letter) → has_letter row ≡ true → 0 < length (letters_in row)
 positive [] h = cc
-positive (None ∷ row) h = cc
-positive (Some letter ∷ row) h = omega arith
+positive (letter ∷ row) h = rw h (omega arith)
 
 -- every rule of the table has a letter
 pub some_letters : (rows : Rows) (place : ℕ) → are_rows rows ≡ true → place < length rows →

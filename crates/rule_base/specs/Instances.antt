@@ -10,7 +10,7 @@ use Rattle.rule_base.specs.Tables.{letters_of}
 
 -- the rows of a table
 abbrev pub Rows : Type 0
-Rows = List (List (Option Letter))
+Rows = List (List Letter)
 
 abbrev pub instance : ℕ → List ℕ → Instance
 instance place choices = record { place = place; choices = choices }

@@ -1,8 +1,11 @@
 pub mod Choices
 pub mod Nodes
+pub mod Instructions
+pub mod Literals
 pub mod Domains
 pub mod Rules
 pub mod Tables
 pub mod Instances
 pub mod Listing
 pub mod Rest
+pub mod Naming

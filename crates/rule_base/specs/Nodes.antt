@@ -98,3 +98,23 @@ leads_beside g (Some other) e = is_from g other.from e
 -- whether the edge leads from the node from which this other one leads
 abbrev pub is_beside : Graph → ℕ → ℕ → Bool
 is_beside g other e = leads_beside g (slice_get g.edges other) e
+
+abbrev end_of : (Edge → ℕ) → Option Edge → ℕ
+end_of end None = 0
+end_of end (Some e) = end e
+
+-- the node from which an edge leads
+abbrev pub from_of : Graph → ℕ → ℕ
+from_of g e = end_of (λ x. x.from) (slice_get g.edges e)
+
+-- the node to which it leads
+abbrev pub to_of : Graph → ℕ → ℕ
+to_of g e = end_of (λ x. x.to) (slice_get g.edges e)
+
+abbrev goes_along : Option Edge → Bool
+goes_along None = false
+goes_along (Some e) = e.taken
+
+-- whether an edge goes along a jump
+abbrev pub is_taken : Graph → ℕ → Bool
+is_taken g e = goes_along (slice_get g.edges e)

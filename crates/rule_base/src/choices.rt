@@ -34,6 +34,15 @@ impl Choices {
         }
     }
 
+    /// One number.
+    pub fn one(a: u32) -> Choices
+        ensures { result ≡ a ∷ [] }
+    {
+        let mut choices = Choices::new();
+        choices.push(a);
+        choices
+    }
+
     /// Two numbers.
     pub fn two(a: u32, b: u32) -> Choices
         ensures { result ≡ a ∷ b ∷ [] }
@@ -63,7 +72,7 @@ impl Choices {
         }
     }
 
-    /// Adds an number at the end.
+    /// Adds a number at the end.
     pub fn push(&mut self, choice: u32)
         requires { length self.old < 5 }
         ensures { self.new ≡ self.old ++ choice ∷ [] }

@@ -107,3 +107,33 @@ pub fn is_beside(graph: &Graph, other: u32, edge: u32) -> bool
         None => false,
     }
 }
+
+/// The node from which an edge leads, or 0 where there is no such edge.
+pub fn from_of(graph: &Graph, edge: u32) -> u32
+    ensures { result ≡ spec.from_of graph.now edge }
+{
+    match graph.edges.get(edge as usize) {
+        Some(found) => found.from,
+        None => 0,
+    }
+}
+
+/// The node to which an edge leads, or 0 where there is no such edge.
+pub fn to_of(graph: &Graph, edge: u32) -> u32
+    ensures { result ≡ spec.to_of graph.now edge }
+{
+    match graph.edges.get(edge as usize) {
+        Some(found) => found.to,
+        None => 0,
+    }
+}
+
+/// Whether an edge goes along a jump.
+pub fn is_taken(graph: &Graph, edge: u32) -> bool
+    ensures { result ≡ spec.is_taken graph.now edge }
+{
+    match graph.edges.get(edge as usize) {
+        Some(found) => found.taken,
+        None => false,
+    }
+}

@@ -54,7 +54,7 @@ impl<'a> Instances<'a> {
             self.back();
             return None;
         };
-        if self.question.size(here, &self.chosen) as u64 <= self.next {
+        if self.question.size(here, &self.chosen) <= self.next {
             self.back();
             return None;
         }

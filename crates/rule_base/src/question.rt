@@ -8,8 +8,8 @@ use program_graph::Graph;
 /// What rules speak of: a graph, and the number of steps.
 #[derive(Clone, Copy, Drop)]
 pub struct Question<'a> {
-    pub(crate) graph: &'a Graph,
-    pub(crate) steps: u32,
+    pub graph: &'a Graph,
+    pub steps: u32,
     ghost few_steps: { steps < 2 ^ 31 },
     ghost few_nodes: { length graph.now.details < 2 ^ 31 },
     ghost few_spots: { length graph.now.spots < 2 ^ 31 },

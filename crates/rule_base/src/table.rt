@@ -1,15 +1,33 @@
 //! Tables of rules, by the letters of their arguments.
 
 ghost use Rattle.std.specs.Prelude.{◌≡◌, ◌<◌, IfSome, IsTrue, length, slice_get};
-ghost use Rattle.rule_base.specs.Tables.{are_rows, letters_of};
+ghost use Rattle.rule_base.specs.Tables.{are_rows, is_filled, letter_or_none, letters_in, letters_of};
 
 use crate::letter::Letter;
 
 /// The letters of each rule's arguments: a row for each rule, filled up behind its last letter. Each rule has an argument.
 #[derive(Clone, Copy, Drop)]
 pub struct Table<'a> {
-    pub rows: &'a [[Option<Letter>; 5]],
+    pub rows: &'a [[Letter; 5]],
     ghost filled: { IsTrue (are_rows rows.now) },
+}
+
+/// The letter, if it is one.
+fn used(letter: Letter) -> Option<Letter>
+    ensures { result ≡ letter_or_none letter }
+{
+    if letter.is_used() { Some(letter) } else { None }
+}
+
+/// The letter at a place of a row.
+fn letter_in(row: &[Letter], at: usize) -> Option<Letter>
+    requires { IsTrue (is_filled row.now) }
+    ensures { result ≡ slice_get (letters_in row.now) at }
+{
+    match row.get(at) {
+        Some(letter) => used(*letter),
+        None => None,
+    }
 }
 
 impl<'a> Table<'a> {
@@ -22,7 +40,7 @@ impl<'a> Table<'a> {
             return None;
         }
         match self.rows.get(place) {
-            Some(row) => row[argument],
+            Some(row) => letter_in(row, argument),
             None => None,
         }
     }

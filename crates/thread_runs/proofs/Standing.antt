@@ -54,7 +54,7 @@ module _ (p : Prog) (e : Exec) (ord : IsOrdered p e) (sound : HasSoundRuns p) (b
     }
 
     -- a run with the actions is one that the trace looks for
-    within_run : (h : HasRunWithin p e bounds.jumps bounds.width t) → HasPlainRun p t.thread (has_ended set) values bounds h.runs.events h.printed
+    pub within_run : (h : HasRunWithin p e bounds.jumps bounds.width t) → HasPlainRun p t.thread (has_ended set) values bounds h.runs.events h.printed
     within_run h =
         let read : h.runs.reads ≡ values = one_list p e ord t.entries h.runs.reads values among (subst (AreGotten e t.entries) (sym h.runs.run.reads_are) (gotten_events p e t.entries h.runs.events h.runs.matched)) gotten in
         plain h.runs.events h.printed (record {

@@ -11,3 +11,4 @@ mod started;
 
 pub use answers::Runs;
 pub use check::check_runs;
+pub use started::part_of;

@@ -4,6 +4,7 @@ ghost use Rattle.std.specs.Prelude.{OnOk, IfErr};
 ghost use Rattle.action_orders.specs.Runs.{IsWithin};
 ghost use Rattle.action_orders.specs.WellFormed.{IsWellFormed};
 ghost use Rattle.line_text.specs.Bounds.{IsBounds};
+ghost use Rattle.orders.specs.Flat.{IsOrdered};
 ghost use Rattle.orders.specs.Made.{IsMade};
 ghost use Rattle.program.specs.Straight.{AreApart};
 ghost use Rattle.thread_runs.specs.Sound.{HasSoundRuns};
@@ -58,10 +59,10 @@ fn check_ordered(alloc: Global, orders: &Orders, bounds: &Bounds) -> Result<(), 
 }
 
 /// Whether the execution is well-formed for the program (JLS 17.4.7, docs/MODEL.md) and within the bounds; else the least
-/// clause that fails, and in it the least identifier or thread. The runs of the program are sound and no two of its variables
-/// have one name, as those of linked programs. It takes time in proportion to the actions times the threads, with the
-/// logarithm of the number of actions, and to the steps of the runs; memory in proportion to the actions and to what a run
-/// takes.
+/// clause that fails, and in it the least identifier or thread. Where it is, its orders can be made. The runs of the program
+/// are sound and no two of its variables have one name, as those of linked programs. It takes time in proportion to the
+/// actions times the threads, with the logarithm of the number of actions, and to the steps of the runs; memory in proportion
+/// to the actions and to what a run takes.
 ///
 /// # Errors
 ///
@@ -77,6 +78,7 @@ pub fn check_execution(
     requires apart { AreApart program.now.variables }
     ensures well_formed { OnOk result (IsWellFormed program.now execution.now) }
     ensures within { OnOk result (IsWithin program.now execution.now bounds.now.jumps bounds.now.width) }
+    ensures ordered { OnOk result (IsOrdered program.now execution.now) }
     ensures refused { IfErr result (IsRefusal program.now execution.now bounds.now) }
 {
     if let Some(at) = check_form(alloc, program, execution)? {

@@ -30,8 +30,8 @@ returns-then-not-grows-clause-found c = record {
     step : (s : SequenceStep) × (slice_get c.args.sequence.now c.loop-place.place ≡ Some s)
     step = there_is c.args.sequence.now c.loop-place.place (let same = ap length c.steps-steps.ensures.value in let within = c.loop-place-test.true in omega (arith, same, within))
 
-    first : c.before-in-loop-place.result.now ≡ set_before c.args.sequence.now c.loop-place.place
-    first = c.before-in-loop-place.ensures ∙ ap (λ (s : List SequenceStep). set_before s c.loop-place.place) c.steps-steps.ensures.value
+    first : c.set_before.result.now ≡ set_before c.args.sequence.now c.loop-place.place
+    first = c.set_before.ensures ∙ ap (λ (s : List SequenceStep). set_before s c.loop-place.place) c.steps-steps.ensures.value
 
     second : c.as_slice.result.now ≡ set_of (slice_get c.args.sequence.now c.loop-place.place)
     second = read_set c.steps-steps.result.now c.args.sequence.now c.loop-place.place c.index-steps-place.result c.as_slice.result.now c.steps-steps.ensures.value c.loop-place-test.true c.as_slice.ensures
@@ -42,8 +42,8 @@ loop-place-preserved c = λ place below. elim (cases_eq place c.loop-place.place
   | inr other ↦ c.loop-place.invariant place (omega (arith, below, other))
 ]
   where
-    first : c.before-in-loop-place.result.now ≡ set_before c.args.sequence.now c.loop-place.place
-    first = c.before-in-loop-place.ensures ∙ ap (λ (s : List SequenceStep). set_before s c.loop-place.place) c.steps-steps.ensures.value
+    first : c.set_before.result.now ≡ set_before c.args.sequence.now c.loop-place.place
+    first = c.set_before.ensures ∙ ap (λ (s : List SequenceStep). set_before s c.loop-place.place) c.steps-steps.ensures.value
 
     second : c.as_slice.result.now ≡ set_of (slice_get c.args.sequence.now c.loop-place.place)
     second = read_set c.steps-steps.result.now c.args.sequence.now c.loop-place.place c.index-steps-place.result c.as_slice.result.now c.steps-steps.ensures.value c.loop-place-test.true c.as_slice.ensures

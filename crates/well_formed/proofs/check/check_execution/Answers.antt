@@ -1,5 +1,6 @@
 -- The first two clauses, and those behind them.
 use Rattle.std.proofs.Common.{OnOk, IfErr, subst, sym}
+use Rattle.std.proofs.lemmas.Result.{on_ok_weaker}
 use Rattle.program.specs.Program.{Prog}
 use Rattle.program.specs.Straight.{AreApart}
 use Rattle.action_orders.specs.Runs.{IsWithin}
@@ -20,3 +21,6 @@ returns-clause-within c = carried (λ p e. OnOk c.check_ordered.result (IsWithin
 pub returns-clause-refused : goal.returns-clause-refused
 returns-clause-refused c = carried (λ p e. IfErr c.check_ordered.result (IsRefusal p e c.args.bounds.now)) c.in_ok-orders.orders.flat.program.now c.args.program.now
     c.in_ok-orders.orders.flat.execution.now c.args.execution.now c.in_ok-orders.ensures.of_program c.in_ok-orders.ensures.of_execution c.check_ordered.ensures.refused
+
+pub returns-clause-ordered : goal.returns-clause-ordered
+returns-clause-ordered c = on_ok_weaker c.check_ordered.result (λ h. c.in_ok-at-2.ensures.ordered c.in_default-2.is) c.check_ordered.ensures.well_formed

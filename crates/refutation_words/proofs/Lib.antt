@@ -1,0 +1,5 @@
+pub mod WordLaws
+pub mod LiteralWords
+mod FrontLaws
+mod PartLaws
+mod HeaderLaws
